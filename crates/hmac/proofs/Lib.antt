@@ -1,0 +1,2 @@
+mod KeyBlock
+pub mod CheckValue

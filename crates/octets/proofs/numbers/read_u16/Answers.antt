@@ -1,0 +1,6 @@
+use borrow.Author.Needs.{needs}
+use Rattle.octets.proofs.BigEndian.{field-read}
+use Rattle.octets.proofs.numbers.read_u16.Needs as need
+
+pub returns : need.returns
+returns c = search (needs, field-read 2)

@@ -1,0 +1,4 @@
+pub mod Lengths
+pub mod Mismatch
+pub mod Outcomes
+pub mod Guarded

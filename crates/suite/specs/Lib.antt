@@ -1,0 +1,5 @@
+pub mod Meaning
+pub mod Fits
+pub mod Laws
+pub mod Cipher
+pub mod Integrity

@@ -1,0 +1,4 @@
+// The protection suites.
+mod pairing;
+
+pub use pairing::Pairing;
