@@ -1,2 +1,3 @@
+pub mod HmacTerms
 pub mod PairingLaws
 pub mod PairingSteps

@@ -1,1 +1,3 @@
+pub mod HmacIntegrity
+pub mod Null
 pub mod Pairing
