@@ -1,0 +1,3 @@
+pub mod Arrivals
+pub mod Framing
+pub mod Refusals
