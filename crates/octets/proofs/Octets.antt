@@ -161,6 +161,21 @@ octets-placed at xs ys h k =
 
 -- `same`
 
+-- what is written right behind xs, where xs was written over the start
+pub placed-behind : (at : ℕ) (xs ys out : List ℕ) → length xs ≡ at → at + length ys ≤ length out → placed at ys (over xs out) ≡ over (xs ++ ys) out
+placed-behind at xs ys out e room =
+    let rest = drop (length xs) out in
+    let fits : at + length ys ≤ length (xs ++ rest) = simp (length-append, length-drop) (omega arith) in
+    let behind : drop (at + length ys) (xs ++ rest) ≡ drop (length (xs ++ ys)) out =
+    sym (drop-drop (length ys) at (xs ++ rest))
+    ∙ (ap (drop (length ys)) (drop-at xs rest at e)
+    ∙ (drop-drop (length ys) (length xs) out ∙ ap (λ m. drop m out) (sym (length-append xs ys)))) in
+    ap (placed at ys) (over-fits xs out (omega arith))
+    ∙ (placed-fits at ys (xs ++ rest) fits
+    ∙ (ap (λ m. m ++ (ys ++ drop (at + length ys) (xs ++ rest))) (take-at xs rest at e)
+    ∙ (ap (λ m. xs ++ (ys ++ m)) behind
+    ∙ (sym (append-assoc xs ys (drop (length (xs ++ ys)) out)) ∙ sym (over-fits (xs ++ ys) out (simp length-append (omega arith)))))))
+
 pub same-refl : (xs : List ℕ) → same xs xs ≡ true
 same-refl [] = refl
 same-refl (x ∷ xs) = and-from _ _ (eq-eqb x x refl) (same-refl xs)

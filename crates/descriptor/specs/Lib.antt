@@ -1,0 +1,4 @@
+pub mod Text
+pub mod Making
+pub mod Opening
+pub mod Laws
