@@ -2,6 +2,8 @@ pub mod Admitted
 pub mod Fronts
 pub mod Laid
 pub mod Laying
+pub mod OpeningLaw
+pub mod OpeningSteps
 pub mod Placing
 pub mod RoundTrip
 pub mod SealingText

@@ -13,4 +13,8 @@ pub use making::LONGEST;
 pub use making::Label;
 pub use making::make;
 pub use opening::Opened;
+pub use opening::OpenedDebug;
+pub use opening::OpenedPartialEq;
+pub use opening::open;
+pub use opening::open_frame;
 pub use protection::Protection;

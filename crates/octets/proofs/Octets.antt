@@ -159,8 +159,6 @@ octets-placed at xs ys h k =
     (all-append byte xs rest h (all-drop byte (at + length xs) ys k)))
     (λ e. k)
 
--- `same`
-
 -- what is written right behind xs, where xs was written over the start
 pub placed-behind : (at : ℕ) (xs ys out : List ℕ) → length xs ≡ at → at + length ys ≤ length out → placed at ys (over xs out) ≡ over (xs ++ ys) out
 placed-behind at xs ys out e room =
@@ -176,6 +174,7 @@ placed-behind at xs ys out e room =
     ∙ (ap (λ m. xs ++ (ys ++ m)) behind
     ∙ (sym (append-assoc xs ys (drop (length (xs ++ ys)) out)) ∙ sym (over-fits (xs ++ ys) out (simp length-append (omega arith)))))))
 
+-- `same`
 pub same-refl : (xs : List ℕ) → same xs xs ≡ true
 same-refl [] = refl
 same-refl (x ∷ xs) = and-from _ _ (eq-eqb x x refl) (same-refl xs)
