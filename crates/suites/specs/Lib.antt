@@ -1,3 +1,4 @@
 pub mod HmacIntegrity
 pub mod Null
 pub mod Pairing
+pub mod Standard

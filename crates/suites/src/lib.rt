@@ -2,6 +2,7 @@
 mod hmac_integrity;
 mod null;
 mod pairing;
+mod standard;
 
 pub use hmac_integrity::HmacIntegrity;
 pub use hmac_integrity::HmacIntegrityAlgorithm;
@@ -10,3 +11,6 @@ pub use null::Null;
 pub use null::NullCipher;
 pub use pairing::Pairing;
 pub use pairing::PairingSuite;
+pub use standard::AUTH_HMAC_SHA2_256_128;
+pub use standard::NullHmacSha256;
+pub use standard::null_hmac_sha2_256_128;

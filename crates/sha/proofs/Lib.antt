@@ -1,0 +1,5 @@
+mod Chained
+mod Padded
+mod Sized
+mod Turns
+mod WordBytes
