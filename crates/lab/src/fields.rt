@@ -16,7 +16,7 @@ const CHECK: usize = 16;
 struct Field(&'static str, usize, usize);
 
 // A line for each field: its place, its name and its bytes; then what the check value covers.
-pub fn tell_fields(rt: &impl Print, form: Form, descriptor: &[u8]) -> io::Result<()> {
+pub(crate) fn tell_fields(rt: &impl Print, form: Form, descriptor: &[u8]) -> io::Result<()> {
     let span = match form {
         Form::Long => Span::Long,
         Form::Short => Span::Short(descriptor.len()),

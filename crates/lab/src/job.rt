@@ -14,13 +14,13 @@ use layout::Form;
 use layout::Span;
 use std::error::AnyError;
 use std::io;
+use suite::Suite;
 use suite::Triple;
 use suites::AUTH_HMAC_SHA2_256_128;
 use suites::ChainHash;
 use suites::ENCR_NULL;
 use suites::HmacIntegrityAlgorithm;
 use suites::NullCipher;
-use suites::NullHmacSha256;
 use suites::PairingSuite;
 use suites::Sha256Blocks;
 use suites::null_hmac_sha2_256_128;
@@ -52,7 +52,7 @@ fn protection() -> Protection<'static> {
 }
 
 // One form of the descriptor, from the data to the damaged copy.
-pub fn tell_form(rt: &LibcRuntime, name: &str, form: Form) -> Result<(), AnyError> {
+pub(crate) fn tell_form(rt: &LibcRuntime, name: &str, form: Form) -> Result<(), AnyError> {
     let label = Label {
         form,
         sai: 0x1234,
@@ -65,23 +65,34 @@ pub fn tell_form(rt: &LibcRuntime, name: &str, form: Form) -> Result<(), AnyErro
         "\n{name}\n\n1. The data. They are the protected part as they are, since ENCR_NULL does not encrypt."
     )?;
     tell_bytes(rt, "Data:", &DATA)?;
-    tell_making(rt, label, list.as_mut_slice(), work.as_mut_slice())?;
+    tell_making(
+        rt,
+        &null_hmac_sha2_256_128(),
+        label,
+        list.as_mut_slice(),
+        work.as_mut_slice(),
+    )?;
     Ok(())
 }
 
 // Makes the descriptor, and goes on with it.
-fn tell_making(rt: &impl Print, label: Label, list: &mut [u8], work: &mut [u8]) -> io::Result<()> {
-    let suite = null_hmac_sha2_256_128();
-    match make(&suite, protection(), label, &[], &DATA, list, work) {
-        Ok(length) => tell_made(rt, &suite, label, list, length, work),
+fn tell_making<S: Suite>(
+    rt: &impl Print,
+    suite: &S,
+    label: Label,
+    list: &mut [u8],
+    work: &mut [u8],
+) -> io::Result<()> {
+    match make(suite, protection(), label, &[], &DATA, list, work) {
+        Ok(length) => tell_made(rt, suite, label, list, length, work),
         Err(fault) => println!(rt, "   Not made: {}.", InWords(fault)),
     }
 }
 
 // The descriptor at the start of `list`, its fields, and what opening it gives before and after one bit is turned.
-fn tell_made(
+fn tell_made<S: Suite>(
     rt: &impl Print,
-    suite: &NullHmacSha256,
+    suite: &S,
     label: Label,
     list: &mut [u8],
     length: usize,
@@ -110,9 +121,9 @@ fn tell_made(
 }
 
 // What opening says, and what it leaves in the data buffer.
-fn tell_opened(
+fn tell_opened<S: Suite>(
     rt: &impl Print,
-    suite: &NullHmacSha256,
+    suite: &S,
     form: Form,
     list: &[u8],
     work: &mut [u8],

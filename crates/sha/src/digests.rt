@@ -10,9 +10,16 @@ use hmac::Hash;
 pub fn sha256_digest(message: &[u8]) -> [u8; 32]
     ensures the_digest { λ r. ⌜ r ≡ sha256 (now (message .entry)) ⌝ }
 {
+    let mut digest = [0; 32];
+    digest_into(message, &mut digest);
+    digest
+}
+
+// Writes the digest into `out`.
+fn digest_into(message: &[u8], out: &mut [u8; 32])
+    ensures the_digest { λ _. ⌜ now (out .exit) ≡ sha256 (now (message .entry)) ⌝ }
+{
     let mut hash = Sha256::new();
     hash.absorb(message);
-    let mut digest = [0; 32];
-    hash.finish(&mut digest);
-    digest
+    hash.finish(out);
 }

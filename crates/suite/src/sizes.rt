@@ -29,7 +29,7 @@ pub struct Sizes {
 
 impl Sizes {
     // Whether keys, salt, head and vector have the right lengths.
-    pub fn fit(self, triple: Triple, inputs: Inputs<'_>) -> bool
+    fn fit(self, triple: Triple, inputs: Inputs<'_>) -> bool
         ensures whether_all_lengths_fit { λ r. ⌜ r ≡ lengthsFit triple self (given (inputs .entry)) ⌝ }
     {
         inputs.key.len() == triple.key
@@ -40,7 +40,7 @@ impl Sizes {
     }
 
     // Whether a text may have `n` bytes.
-    pub fn fit_text(self, n: usize) -> bool
+    fn fit_text(self, n: usize) -> bool
         ensures whether_in_whole_units { λ r. ⌜ r ≡ textFits self n ⌝ }
     {
         n.is_multiple_of(self.unit) && n < 4294967296
