@@ -17,9 +17,6 @@ use crate::fault::Fault;
 use crate::fault::FromSuite;
 use crate::protection::Protection;
 use layout::Form;
-use layout::FormDebug;
-use layout::FormEq;
-use layout::FormPartialEq;
 use octets::bytes_are_octets;
 use octets::copy_at;
 use octets::copy_over;
@@ -38,7 +35,7 @@ use suite::WORK;
 pub const LONGEST: usize = 65535;
 
 // What a descriptor carries in clear: its form, the SAI that it goes to, and its number.
-#[derive(Clone, Copy, PartialEq, Eq, Debug)]
+#[derive(Clone, Copy)]
 pub struct Label {
     pub form: Form,
     pub sai: u32,

@@ -6,14 +6,14 @@ ghost use Rattle.layout.specs.Layout.{formOf, lead};
 pub(crate) const HEAD_LEN: usize = 12;
 
 // The long form begins with DESCRIPTOR LENGTH, the short form with the SAI.
-#[derive(Clone, Copy, PartialEq, Eq, Drop, Debug)]
+#[derive(Clone, Copy, Drop)]
 pub enum Form {
     Long,
     Short,
 }
 
 // How far an arriving descriptor reaches: as its own DESCRIPTOR LENGTH says, or as many bytes as are given with the call.
-#[derive(Clone, Copy, PartialEq, Eq, Drop, Debug)]
+#[derive(Clone, Copy, Drop)]
 pub enum Span {
     Long,
     Short(usize),

@@ -18,7 +18,7 @@ use Rattle.std.proofs.shelf.Lists.{length-push, length-take, length-drop, lengt
 use Rattle.std.proofs.shelf.Tests.{le-leb, cond-true}
 use Rattle.octets.specs.Numbers.{bigEndian, number, field}
 use Rattle.octets.specs.Octets.{Octets, placed}
-use Rattle.octets.proofs.Octets.{length-placed, between-placed}
+use Rattle.octets.proofs.Octets.{length-placed}
 
 pub length-bigEndian : (k n : ℕ) → length (bigEndian k n) ≡ k
 length-bigEndian zero n = refl
@@ -62,11 +62,6 @@ bytes-of (suc k) xs e h =
 pub bigEndian-number : (xs : List ℕ) → Octets xs → bigEndian (length xs) (number xs) ≡ xs
 bigEndian-number xs h = bytes-of (length xs) xs refl h
 
-pub bigEndian-mod : (k n : ℕ) → bigEndian k (n % 256 ^ k) ≡ bigEndian k n
-bigEndian-mod k n =
-    ap (bigEndian k) (sym (number-bigEndian-mod k n))
-    ∙ bytes-of k (bigEndian k n) (length-bigEndian k n) (octets-bigEndian k n)
-
 numberAfter-is : (n : ℕ) (ys : List ℕ) → numberAfter 256 n ys ≡ n * 256 ^ length ys + number ys
 numberAfter-is n [] = omega arith
 numberAfter-is n (y ∷ ys) =
@@ -74,10 +69,6 @@ numberAfter-is n (y ∷ ys) =
     let this = numberAfter-is (n * 256 + y) ys in
     let alone = numberAfter-is (0 + y) ys in
     rw (pow-suc 256 (length ys)) (omega (arith, add-mul (n * 256) y p, mul-assoc n 256 p, mul-comm 256 p, zero-add y))
-
--- the most significant bytes come first
-pub number-append : (xs ys : List ℕ) → number (xs ++ ys) ≡ number xs * 256 ^ length ys + number ys
-number-append xs ys = numberAfter-append 256 0 xs ys ∙ numberAfter-is (number xs) ys
 
 -- the first byte
 pub bigEndian-cons : (k n : ℕ) → bigEndian (suc k) n ≡ (n / 256 ^ k % 256) ∷ bigEndian k n
@@ -115,16 +106,3 @@ field-read k xs at n h e =
     let all : 0 + k ≡ length part = simp (length-take, length-drop) (omega arith) in
     ap Some (e ∙ ap number (elements-are part 0 k all ∙ ap (λ m. take m (drop at xs)) (omega arith)))
     ∙ sym (cond-true (leb (at + k) (length xs)) _ _ (le-leb (at + k) (length xs) h))
-
--- a number that was written at a place is read there
-pub field-placed : (k at n : ℕ) (ys : List ℕ) → at + k ≤ length ys → n < 256 ^ k → field k (placed at (bigEndian k n) ys) at ≡ Some n
-field-placed k at n ys h small =
-    let bytes = bigEndian k n in
-    let all = placed at bytes ys in
-    let width = length-bigEndian k n in
-    let fits : at + k ≤ length all = rw (length-placed at bytes ys) h in
-    let again : take k (drop at all) ≡ bytes =
-    ap (λ m. take m (drop at all)) (sym width) ∙ between-placed at bytes ys (rw width h) in
-    cond-true (leb (at + k) (length all)) _ _ (le-leb (at + k) (length all) fits)
-    ∙ ap (λ zs. Some (number zs)) again
-    ∙ ap Some (number-bigEndian k n small)

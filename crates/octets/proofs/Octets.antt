@@ -23,9 +23,6 @@ pub all-replicate : {X : Type 0} (P : X → Type 0) (n : ℕ) (x : X) → P x �
 all-replicate P zero x h = tt
 all-replicate P (suc n) x h = (h, all-replicate P n x h)
 
-pub octets-zeros : (n : ℕ) → Octets (zeros n)
-octets-zeros n = all-replicate (λ x. x < 256) n 0 (omega arith)
-
 -- `over`
 
 pub length-over : (xs ys : List ℕ) → length (over xs ys) ≡ length ys
@@ -63,18 +60,6 @@ pub drop-over-rest : (xs ys : List ℕ) → drop (length xs) (over xs ys) ≡ dr
 drop-over-rest xs ys =
     drop-over (length xs) xs ys ∙ rw (drop-all (length xs) xs (omega arith)) (over-nil (drop (length xs) ys))
 
--- bytes that the buffer has no room for do not count
-pub over-take : (xs ys : List ℕ) → over (take (length ys) xs) ys ≡ over xs ys
-over-take xs ys =
-    sym (take-over (length ys) xs ys ∙ ap (over (take (length ys) xs)) (take-all (length ys) ys (omega arith)))
-    ∙ take-all (length ys) (over xs ys) (rw (length-over xs ys) (omega arith))
-
--- a write that ends in the buffer's first part leaves the second
-pub over-prefix : (xs ys zs : List ℕ) → length xs ≤ length ys → over xs (ys ++ zs) ≡ over xs ys ++ zs
-over-prefix xs ys zs h =
-    over-fits xs (ys ++ zs) (rw (length-append ys zs) (omega arith))
-    ∙ rw (drop-append-le (length xs) ys zs h, over-fits xs ys h) (sym (append-assoc xs (drop (length xs) ys) zs))
-
 -- the part that is written, as far as both reach, and what is left of the buffer
 pub over-part : (n : ℕ) (zs xs ys : List ℕ) → n ≡ min (length xs) (length ys) → zs ≡ take (n - 0) xs → zs ++ drop (n - 0) ys ≡ over xs ys
 over-part n zs xs ys e f =
@@ -96,16 +81,7 @@ over-append [] zs ys = refl
 over-append (x ∷ xs) zs [] = sym (drop-nil (length zs))
 over-append (x ∷ xs) zs (y ∷ ys) = ap (λ r. x ∷ r) (over-append xs zs ys)
 
-pub octets-over : (xs ys : List ℕ) → Octets xs → Octets ys → Octets (over xs ys)
-octets-over xs ys h k =
-    let byte : ℕ → Type 0 = λ x. x < 256 in
-    all-append byte (take (length ys) xs) (drop (length xs) ys) (all-take byte (length ys) xs h)
-    (all-drop byte (length xs) ys k)
-
 -- `wiped`
-
-pub length-wiped : (n : ℕ) (ys : List ℕ) → length (wiped n ys) ≡ length ys
-length-wiped n ys = length-over (zeros n) ys
 
 pub wiped-fits : (n : ℕ) (ys : List ℕ) → n ≤ length ys → wiped n ys ≡ zeros n ++ drop n ys
 wiped-fits n ys h =
@@ -125,9 +101,6 @@ wiped-part n k zs ys e f =
 pub placed-fits : (at : ℕ) (xs ys : List ℕ) → at + length xs ≤ length ys → placed at xs ys ≡ take at ys ++ (xs ++ drop (at + length xs) ys)
 placed-fits at xs ys h = cond-true _ _ _ (le-leb _ _ h)
 
-pub placed-past : (at : ℕ) (xs ys : List ℕ) → length ys < at + length xs → placed at xs ys ≡ ys
-placed-past at xs ys h = cond-false _ _ _ (lt-leb _ _ h)
-
 pub placed-part : (at k : ℕ) (zs xs ys : List ℕ) → at + length xs ≤ length ys → k ≡ length xs → zs ≡ xs → putMid at k ys zs ≡ placed at xs ys
 placed-part at k zs xs ys h e f = rw (e, f, drop-drop) (sym (placed-fits at xs ys h))
 
@@ -138,26 +111,6 @@ length-placed at xs ys =
     (λ e. let h = leb-true (at + length xs) (length ys) e in
     simp (length-append, length-take, length-drop) (omega arith))
     (λ e. refl)
-
--- a write at the start
-pub placed-start : (xs ys : List ℕ) → length xs ≤ length ys → placed 0 xs ys ≡ over xs ys
-placed-start xs ys h =
-    placed-fits 0 xs ys (omega arith) ∙ rw (zero-add (length xs)) (sym (over-fits xs ys h))
-
--- what was written, read again
-pub between-placed : (at : ℕ) (xs ys : List ℕ) → at + length xs ≤ length ys → take (length xs) (drop at (placed at xs ys)) ≡ xs
-between-placed at xs ys h =
-    rw (placed-fits at xs ys h, drop-at (take at ys) (xs ++ drop (at + length xs) ys) at (length-take-le at ys (omega arith)))
-    (take-at xs (drop (at + length xs) ys) (length xs) refl)
-
-pub octets-placed : (at : ℕ) (xs ys : List ℕ) → Octets xs → Octets ys → Octets (placed at xs ys)
-octets-placed at xs ys h k =
-    let byte : ℕ → Type 0 = λ x. x < 256 in
-    let rest = drop (at + length xs) ys in
-    cond-both (leb (at + length xs) (length ys)) (take at ys ++ (xs ++ rest)) ys Octets
-    (λ e. all-append byte (take at ys) (xs ++ rest) (all-take byte at ys k)
-    (all-append byte xs rest h (all-drop byte (at + length xs) ys k)))
-    (λ e. k)
 
 -- what is written right behind xs, where xs was written over the start
 pub placed-behind : (at : ℕ) (xs ys out : List ℕ) → length xs ≡ at → at + length ys ≤ length out → placed at ys (over xs out) ≡ over (xs ++ ys) out
@@ -184,9 +137,6 @@ same-true [] [] h = refl
 same-true [] (y ∷ ys) h = absurd (let z : _≡_ {A = ℕ} 0 1 = cc in omega arith)
 same-true (x ∷ xs) [] h = absurd (let z : _≡_ {A = ℕ} 0 1 = cc in omega arith)
 same-true (x ∷ xs) (y ∷ ys) h = let p = and-parts (eqb x y) (same xs ys) h in let e = eqb-true x y (p .0) in let f = same-true xs ys (p .1) in cc
-
-pub same-false : (xs ys : List ℕ) → same xs ys ≡ false → xs ≡ ys → ⊥
-same-false xs ys h e = both-ways (same xs ys) h (let t = same-refl xs in cc)
 
 pub same-lengths : (xs ys : List ℕ) → (length xs ≡ length ys → ⊥) → same xs ys ≡ false
 same-lengths xs ys h = ⊎-elim (λ t. absurd (h (ap length (same-true xs ys t)))) (λ f. f) (cases-bool (same xs ys))

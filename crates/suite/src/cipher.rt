@@ -3,7 +3,7 @@ ghost use mathlib.Core.Path.{_≡_};
 ghost use Rattle.suite.specs.Cipher.{CipherMeaning, ciphering, done, textAfter, Cipher-sizes-are-bounded, Keeps-length, Gives-bytes, Deciphering-undoes-enciphering, Enciphering-undoes-deciphering};
 use crate::fault::Fault;
 
-#[derive(Clone, Copy, PartialEq, Eq, Debug)]
+#[derive(Clone, Copy)]
 pub struct CipherSizes {
     // the initialization vector
     pub vector: usize,

@@ -3,7 +3,7 @@ ghost use mathlib.Core.Path.{_≡_};
 ghost use Rattle.octets.specs.Octets.{over};
 ghost use Rattle.suite.specs.Integrity.{IntegrityMeaning, checked, Integrity-sizes-are-bounded, Check-value-has-its-size};
 
-#[derive(Clone, Copy, PartialEq, Eq, Debug)]
+#[derive(Clone, Copy)]
 pub struct IntegritySizes {
     // the integrity key
     pub key: usize,

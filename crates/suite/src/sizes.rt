@@ -12,7 +12,7 @@ pub const WORK: usize = 240;
 pub const HEAD: usize = 12;
 
 // Sizes in bytes, and whether the text is encrypted.
-#[derive(Clone, Copy, PartialEq, Eq, Debug)]
+#[derive(Clone, Copy)]
 pub struct Sizes {
     // the integrity key
     pub integrity: usize,
