@@ -2,3 +2,4 @@ pub mod Text
 pub mod Making
 pub mod Opening
 pub mod Laws
+pub mod Worked

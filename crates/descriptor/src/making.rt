@@ -12,6 +12,7 @@ ghost use Rattle.layout.specs.Refusals.{firstFit, judged};
 ghost use Rattle.suite.specs.Laws.{Bounded};
 ghost use Rattle.descriptor.specs.Laws.{All-bytes, Opens-to};
 ghost use Rattle.descriptor.specs.Making.{making, answer, outputAfter, workAfter, makeTests, madeLength, madeBytes, keysFit, leadOf, front, Makeable};
+ghost use Rattle.descriptor.specs.Worked.{WorkedLengths};
 ghost use Rattle.descriptor.specs.Text.{textLength, textOf};
 use crate::fault::Fault;
 use crate::fault::FromSuite;
@@ -109,6 +110,7 @@ fn made_length(form: Form, sizes: Sizes, n: usize) -> usize
     requires small { ⌜ n ≤ 65535 ⌝ }
     requires bounded { ⌜ sizes .unit ≤ 16 ⌝ ∗ ⌜ sizes .vector ≤ 16 ⌝ ∗ ⌜ sizes .check ≤ 32 ⌝ }
     ensures all_its_parts { λ r. ⌜ r ≡ madeLength form sizes n ⌝ }
+    ensures worked_lengths { λ _. ⌜ WorkedLengths ⌝ }
 {
     form.lead() + HEAD + sizes.vector + text_length(sizes, n) + sizes.check
 }

@@ -2,45 +2,47 @@
 use crate::hex::Hex;
 use crate::hex::HexDisplay;
 use layout::Form;
-use layout::Span;
-use layout::read_frame;
 use std::io;
 
-// Bytes of the vector and of the check value under ENCR_NULL with AUTH_HMAC_SHA2_256_128.
-const VECTOR: usize = 0;
-
+// Bytes of the check value under AUTH_HMAC_SHA2_256_128. ENCR_NULL has no vector.
 const CHECK: usize = 16;
 
 // A field of a descriptor: its name, where it begins, and where it ends.
 #[derive(Clone, Copy)]
 struct Field(&'static str, usize, usize);
 
-// A line for each field: its place, its name and its bytes; then what the check value covers.
+// A line for each field: its place, its name and its bytes.
 pub(crate) fn tell_fields(rt: &impl Print, form: Form, descriptor: &[u8]) -> io::Result<()> {
-    let span = match form {
-        Form::Long => Span::Long,
-        Form::Short => Span::Short(descriptor.len()),
-    };
-    let Ok(frame) = read_frame(descriptor, 0, span) else {
-        return rt.println("     not a descriptor");
-    };
-    let Ok(parts) = frame.parts(VECTOR, CHECK, 1, false) else {
-        return rt.println("     not a descriptor of this suite");
-    };
-    let sqn = frame.head.saturating_add(4);
-    let lead = [Field("DESCRIPTOR LENGTH", 0, 2), Field("reserved", 2, 4)];
-    let fields = [
-        Field("SAI", frame.head, sqn),
-        Field("SQN", sqn, parts.vector),
-        Field("vector", parts.vector, parts.protected),
-        Field("protected part", parts.protected, parts.check),
-        Field("check value", parts.check, parts.end),
-        Field("head, as one", frame.head, parts.vector),
-    ];
-    if let Form::Long = form {
-        tell_each(rt, descriptor, &lead)?;
+    let end = descriptor.len();
+    let check = end.saturating_sub(CHECK);
+    match form {
+        Form::Long => tell_each(
+            rt,
+            descriptor,
+            &[
+                Field("DESCRIPTOR LENGTH", 0, 2),
+                Field("reserved", 2, 4),
+                Field("SAI", 4, 8),
+                Field("SQN", 8, 16),
+                Field("vector", 16, 16),
+                Field("protected part", 16, check),
+                Field("check value", check, end),
+                Field("head, as one", 4, 16),
+            ],
+        ),
+        Form::Short => tell_each(
+            rt,
+            descriptor,
+            &[
+                Field("SAI", 0, 4),
+                Field("SQN", 4, 12),
+                Field("vector", 12, 12),
+                Field("protected part", 12, check),
+                Field("check value", check, end),
+                Field("head, as one", 0, 12),
+            ],
+        ),
     }
-    tell_each(rt, descriptor, &fields)
 }
 
 fn tell_each(rt: &impl Print, descriptor: &[u8], fields: &[Field]) -> io::Result<()> {

@@ -4,8 +4,7 @@ use crate::hex::Hex;
 use crate::hex::HexDisplay;
 use crate::hex::Text;
 use crate::hex::TextDisplay;
-use crate::words::InWords;
-use crate::words::InWordsDisplay;
+use crate::words::in_words;
 use descriptor::Label;
 use descriptor::Protection;
 use descriptor::make;
@@ -85,7 +84,7 @@ fn tell_making<S: Suite>(
 ) -> io::Result<()> {
     match make(suite, protection(), label, &[], &DATA, list, work) {
         Ok(length) => tell_made(rt, suite, label, list, length, work),
-        Err(fault) => println!(rt, "   Not made: {}.", InWords(fault)),
+        Err(fault) => println!(rt, "   Not made: {}.", in_words(fault)),
     }
 }
 
@@ -141,7 +140,7 @@ fn tell_opened<S: Suite>(
                 opened.sai, opened.sqn, opened.length
             )?;
         }
-        Err(fault) => println!(rt, "     Refused: {}.", InWords(fault))?,
+        Err(fault) => println!(rt, "     Refused: {}.", in_words(fault))?,
     }
     tell_bytes(rt, "Data buffer:", &data)
 }

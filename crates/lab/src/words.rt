@@ -1,18 +1,8 @@
 // Faults in words.
 use descriptor::Fault;
-use std::fmt;
 
 // Why a descriptor was not made or not opened.
-#[derive(Clone, Copy)]
-pub struct InWords(pub Fault);
-
-pub impl fmt::Display for InWords as InWordsDisplay {
-    fn fmt<W: fmt::Write>(&self, f: &mut fmt::Formatter<W>) -> fmt::Result {
-        f.write_str(said(self.0))
-    }
-}
-
-fn said(fault: Fault) -> &'static str {
+pub(crate) fn in_words(fault: Fault) -> &'static str {
     match fault {
         Fault::Layout(fault) => layout_words(fault),
         Fault::Suite(fault) => suite_words(fault),
