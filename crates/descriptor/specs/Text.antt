@@ -3,7 +3,7 @@
 --   textOf z xs             the text that is sealed of the data xs: padded where the suite encrypts
 --   textLength z n          its length for n data bytes
 --   dataOf z text           the data of a text that was opened; none where its padding is wrong
---   Sealed-as ..            text is the data with a padding that is allowed on arrival
+--   Text-of z xs text       text is the data xs, with a padding that is allowed on arrival where the suite encrypts
 use mathlib.Core.Bool.{Bool, true, false, cond}
 use mathlib.Core.List.{List}
 use mathlib.Core.Path.{_≡_}

@@ -1,5 +1,4 @@
 // What a descriptor is protected under.
-ghost use mathlib.Core.Path.{_≡_};
 use suite::Triple;
 
 // A triple with the keys of one direction of an SA.

@@ -10,7 +10,7 @@ use Rattle.std.specs.declared.option.Option.the-variants.{Some, None}
 use Rattle.octets.specs.Octets.{Octets}
 use Rattle.suite.specs.declared.integrity.IntegritySizes.{IntegritySizes}
 
--- value takes a key and a message
+-- value takes a code, a key and a message
 pub record IntegrityMeaning : Type 0 where
   pub serves : ℕ → Option IntegritySizes
   pub value : ℕ → List ℕ → List ℕ → List ℕ

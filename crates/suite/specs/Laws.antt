@@ -1,9 +1,11 @@
 -- The laws that every suite keeps.
---   Bounded       the sizes that a suite tells are within bounds
---   Fitting       keys, salt, head and vector are bytes and have their sizes
---   Served        a triple that the suite serves, with what fits its sizes
---   Text          bytes that may be sealed
---   Seals-to y    a text that seals to the bytes y
+--   Bounded            the sizes that a suite tells are within bounds
+--   Fitting            keys, salt, head and vector are bytes and have their sizes
+--   Served             a triple that the suite serves, with what fits its sizes
+--   Text               bytes that may be sealed
+--   Sealed             bytes that are as long as a text with its check value
+--   No-text-seals-to   no text seals to these bytes
+-- Each law stands below under the name of what it says.
 use mathlib.Core.Bool.{Bool, true, false}
 use mathlib.Core.List.{List}
 use mathlib.Core.Path.{_≡_}
@@ -44,7 +46,6 @@ pub record Served (m : Meaning) (t : Triple) (g : Given) : Type 0 where
   pub told : m .serves t ≡ Some sizes
   pub fitting : Fitting t sizes g
 
--- bytes that are as long as a text with its check value
 pub record Sealed (z : Sizes) (y : List ℕ) : Type 0 where
   pub bytes : Octets y
   pub check : z .check ≤ length y

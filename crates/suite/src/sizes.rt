@@ -1,6 +1,5 @@
 // What a suite tells of a triple that it serves, and whether what a call brings has those sizes.
 ghost use mathlib.Core.Path.{_≡_};
-ghost use lib.ListN.{length};
 ghost use Rattle.suite.specs.Meaning.{given, sealingFits, openingFits, lengthsFit, textFits};
 use crate::inputs::Inputs;
 use crate::triple::Triple;
