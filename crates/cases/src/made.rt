@@ -3,6 +3,7 @@ use crate::under::EMPTY;
 use crate::under::LONG;
 use crate::under::OLD;
 use crate::under::SERVED;
+use crate::under::UNSERVED;
 use crate::under::USED;
 use crate::under::first;
 use crate::under::first_mut;
@@ -94,6 +95,17 @@ fn refused<S: Suite>(suite: &S, call: Call, data: &[u8], fault: Fault) -> Result
 #[test]
 fn refused_calls() -> Result<(), Fail> {
     let size = Fault::Suite(suite::Fault::Size);
+    let unserved = Call {
+        triple: UNSERVED[0],
+        work: 239,
+        ..FITTING
+    };
+    refused(
+        &null_hmac_sha2_256_128(),
+        unserved,
+        &DATA,
+        Fault::Suite(suite::Fault::NotServed),
+    )?;
     for (call, fault) in [
         (
             Call {

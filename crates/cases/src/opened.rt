@@ -3,6 +3,7 @@ use crate::under::EMPTY;
 use crate::under::LONG;
 use crate::under::OLD;
 use crate::under::SERVED;
+use crate::under::UNSERVED;
 use crate::under::old;
 use crate::under::used;
 use crate::under::wiped;
@@ -25,11 +26,13 @@ use suites::NullCipher;
 use suites::PairingSuite;
 use suites::null_hmac_sha2_256_128;
 
+const KEY: [u8; 32] = [7; 32];
+
 const UNDER: Protection<'static> = Protection {
     triple: SERVED,
     key: &[],
     salt: &[],
-    integrity: &[7; 32],
+    integrity: &KEY,
 };
 
 const FIVE: [u8; 8] = [1, 2, 3, 4, 5, OLD, OLD, OLD];
@@ -46,6 +49,7 @@ fn found(length: usize) -> Result<Opened, Fault> {
 // Opening gives this answer, after which the buffer is `data` and the work area `area`.
 fn opens<S: Suite>(
     suite: &S,
+    under: Protection<'_>,
     list: &[u8],
     place: usize,
     span: Span,
@@ -56,7 +60,7 @@ fn opens<S: Suite>(
     let mut out = [OLD; 8];
     let mut work = used();
     check_eq(
-        open(suite, UNDER, list, place, span, &mut out, &mut work),
+        open(suite, under, list, place, span, &mut out, &mut work),
         answer,
     )?;
     check(out == data)?;
@@ -67,6 +71,7 @@ fn opens<S: Suite>(
 fn refused(list: &[u8], place: usize, span: Span, fault: layout::Fault) -> Result<(), Fail> {
     opens(
         &null_hmac_sha2_256_128(),
+        UNDER,
         list,
         place,
         span,
@@ -93,6 +98,7 @@ fn opened_data() -> Result<(), Fail> {
     for (list, place, span) in cases {
         opens(
             &null_hmac_sha2_256_128(),
+            UNDER,
             list,
             place,
             span,
@@ -103,6 +109,7 @@ fn opened_data() -> Result<(), Fail> {
     }
     opens(
         &null_hmac_sha2_256_128(),
+        UNDER,
         &EMPTY,
         0,
         Span::Short(28),
@@ -142,12 +149,43 @@ fn no_turned_bit_opens() -> Result<(), Fail> {
         let data = [0, 0, 0, 0, 0, OLD, OLD, OLD];
         opens(
             &null_hmac_sha2_256_128(),
+            UNDER,
             &list,
             0,
             Span::Long,
             answer,
             data,
             wiped(),
+        )?;
+    }
+    Ok(())
+}
+
+// The triple is looked at before the key, and nothing is altered.
+#[test]
+fn refused_by_the_suite() -> Result<(), Fail> {
+    let short_key = Protection {
+        integrity: &KEY[0..31],
+        ..UNDER
+    };
+    let unserved = Protection {
+        triple: UNSERVED[0],
+        ..short_key
+    };
+    for (under, fault) in [
+        (unserved, suite::Fault::NotServed),
+        (short_key, suite::Fault::Size),
+    ] {
+        let answer = Err(Fault::Suite(fault));
+        opens(
+            &null_hmac_sha2_256_128(),
+            under,
+            &LONG,
+            0,
+            Span::Long,
+            answer,
+            [OLD; 8],
+            used(),
         )?;
     }
     Ok(())
