@@ -1,4 +1,6 @@
 // The ciphers and the integrity algorithms that a pairing takes.
+#![tactic(auto)]
+
 mod cbc_cipher;
 mod hmac_integrity;
 mod null;

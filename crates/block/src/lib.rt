@@ -1,4 +1,6 @@
 // Ciphers of blocks of 16 bytes, which the modes of operation are built on.
+#![tactic(auto)]
+
 mod cipher;
 mod xor;
 

@@ -1,4 +1,6 @@
 // Examples of every refusal of padding and descriptor, and of their edges.
+#![tactic(auto)]
+
 #[cfg(test)]
 mod made;
 #[cfg(test)]

@@ -1,4 +1,6 @@
 // Cipher block chaining (SP 800-38A, section 6.2) over any block cipher, in place.
+#![tactic(auto)]
+
 mod copying;
 mod deciphering;
 mod enciphering;

@@ -1,4 +1,6 @@
 // CCM (SP 800-38C, RFC 3610) over any block cipher.
+#![tactic(auto)]
+
 mod blocks;
 mod chain;
 mod fault;

@@ -1,4 +1,6 @@
 // What the hash functions of FIPS 180-4 share: words of 32 bits, the padding of a message and the chaining of its blocks.
+#![tactic(auto)]
+
 mod chaining;
 mod words;
 

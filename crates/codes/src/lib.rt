@@ -1,4 +1,6 @@
 // The algorithm codes: their sizes, and the sort of every code.
+#![tactic(auto)]
+
 mod encryption;
 mod integrity;
 mod sort;

@@ -1,4 +1,6 @@
 // Suites whose one algorithm both encrypts the text and computes the check value.
+#![tactic(auto)]
+
 mod ccm_suite;
 mod faults;
 mod keyed;

@@ -1,4 +1,6 @@
 // One ESP-SCSI descriptor made and opened, over any suite.
+#![tactic(auto)]
+
 mod fault;
 mod making;
 mod opening;

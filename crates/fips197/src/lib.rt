@@ -1,4 +1,6 @@
 // The parts of AES, the block cipher of FIPS 197: its substitution boxes and the transformations of its state.
+#![tactic(auto)]
+
 mod field;
 mod inv_s_box;
 mod s_box;

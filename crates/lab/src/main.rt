@@ -1,5 +1,7 @@
 // The workbench: under each suite of the standard bank, makes data into a descriptor, opens it, damages it, and tells each
 // step in words beside its bytes.
+#![tactic(auto)]
+
 mod fields;
 mod hex;
 mod job;

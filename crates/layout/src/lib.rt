@@ -1,4 +1,6 @@
 // The layout of an ESP-SCSI descriptor: its two forms, and where its parts are in a list.
+#![tactic(auto)]
+
 mod fault;
 mod form;
 mod frame;

@@ -1,4 +1,6 @@
 // Bytes in slices: big-endian numbers, writing over the start of a buffer, zeroing, and a comparison with no early exit.
+#![tactic(auto)]
+
 mod buffers;
 mod bytes;
 mod numbers;

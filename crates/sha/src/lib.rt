@@ -1,4 +1,6 @@
 // The hash functions of FIPS 180-4.
+#![tactic(auto)]
+
 mod digests;
 mod sha1;
 mod sha256;

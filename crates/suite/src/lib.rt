@@ -1,4 +1,6 @@
 // What a protection suite is: which triples it serves, with which sizes, and what sealing and opening mean.
+#![tactic(auto)]
+
 mod cipher;
 mod fault;
 mod inputs;

@@ -1,4 +1,6 @@
 // Examples of every answer of each suite of the standard bank.
+#![tactic(auto)]
+
 #[cfg(test)]
 mod calls;
 #[cfg(test)]

@@ -1,4 +1,6 @@
 // The protection suites in one bank.
+#![tactic(auto)]
+
 mod standard;
 
 pub use aes::Aes;

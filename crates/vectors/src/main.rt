@@ -1,4 +1,6 @@
 // Published vectors of FIPS, NIST and RFC, run: a line for each, and then how many passed and failed.
+#![tactic(auto)]
+
 mod aes_vectors;
 mod cbc_vectors;
 mod ccm_vectors;

@@ -15,4 +15,4 @@ pub returns : goal.returns
 returns c =
     let s = c.args.bytes.now in
     let i = c.loop-b.b-index in
-    record { every-value-is-a-byte = subst Octets (take_all i s (search rules)) c.loop-b.invariant }
+    record { every_value_is_a_byte = subst Octets (take_all i s (search rules)) c.loop-b.invariant }
