@@ -129,7 +129,7 @@ impl<B: BlockCipher> Cipher for Cbc<B> {
 impl<B: BlockCipher> Cbc<B> {
     // How long the schedule of a key of `key` bytes is, if the code and such keys are served.
     fn schedule_length(&self, code: u32, key: usize) -> Option<usize>
-        ensures where_served { result ≡ schedule_served scheduled self.now.code code key }
+        ensures where_served { result ≡ schedule_served B.scheduled self.now.code code key }
     {
         if code == self.code {
             B::schedule_length(key)
@@ -148,10 +148,10 @@ fn fit(vector: usize, text: usize, work: usize) -> bool
 
 // Writes a key's schedule of `schedule` bytes over the start of the work area.
 fn expand<B: BlockCipher>(schedule: usize, key: &[u8], work: &mut [u8])
-    requires served { scheduled (length key.now) ≡ Some schedule }
+    requires served { B.scheduled (length key.now) ≡ Some schedule }
     requires work_bytes { 240 ≤ length work.old }
     ensures room { schedule ≤ length work.new }
-    ensures schedule_first { take schedule work.new ≡ expanded key.now }
+    ensures schedule_first { take schedule work.new ≡ B.expanded key.now }
 {
     B::expand_key(key, work);
 }
@@ -164,11 +164,11 @@ fn encipher_fitting<B: BlockCipher>(
     text: &mut [u8],
     work: &mut [u8],
 )
-    requires served { scheduled (length key.now) ≡ Some schedule }
+    requires served { B.scheduled (length key.now) ≡ Some schedule }
     requires one_block { length vector.now ≡ 16 }
     requires whole_blocks { length text.old % 16 ≡ 0 }
     requires work_bytes { 240 ≤ length work.old }
-    ensures enciphered { text.new ≡ cbc_enciphered (forward (expanded key.now)) vector.now text.old }
+    ensures enciphered { text.new ≡ cbc_enciphered (B.forward (B.expanded key.now)) vector.now text.old }
 {
     expand::<B>(schedule, key, work);
     let mut chain = [0; BLOCK];
@@ -184,11 +184,11 @@ fn decipher_fitting<B: BlockCipher>(
     text: &mut [u8],
     work: &mut [u8],
 )
-    requires served { scheduled (length key.now) ≡ Some schedule }
+    requires served { B.scheduled (length key.now) ≡ Some schedule }
     requires one_block { length vector.now ≡ 16 }
     requires whole_blocks { length text.old % 16 ≡ 0 }
     requires work_bytes { 240 ≤ length work.old }
-    ensures deciphered { text.new ≡ cbc_deciphered (inverse (expanded key.now)) vector.now text.old }
+    ensures deciphered { text.new ≡ cbc_deciphered (B.inverse (B.expanded key.now)) vector.now text.old }
 {
     expand::<B>(schedule, key, work);
     let mut chain = [0; BLOCK];

@@ -70,7 +70,7 @@ impl<H: Hash> Integrity for HmacIntegrity<H> {
 
 // Absorbs what a check value covers: head, vector and enciphered text, in this order.
 fn absorb_message<H: Hash>(mac: &mut Hmac<H>, head: &[u8], vector: &[u8], text: &[u8])
-    ensures absorbed { (x : List ℕ) → mac_after after size mac.new x ≡ mac_after after size mac.old (head.now ++ (vector.now ++ (text.now ++ x))) }
+    ensures absorbed { (x : List ℕ) → mac_after H.after H.size mac.new x ≡ mac_after H.after H.size mac.old (head.now ++ (vector.now ++ (text.now ++ x))) }
 {
     mac.absorb(head);
     mac.absorb(vector);

@@ -10,7 +10,7 @@ use block::{BLOCK, BlockCipher, xor_over};
 // initialization vector, and afterwards the last block of ciphertext, to which the next part of a text is chained.
 pub fn decipher<B: BlockCipher>(schedule: &[u8], chain: &mut [u8; 16], text: &mut [u8]) -> bool
     ensures whether_in_whole_blocks { result ≡ whole_blocks text.old }
-    ensures deciphered { text.new ≡ (if whole_blocks text.old then cbc_deciphered (inverse schedule.now) chain.old text.old else text.old) }
+    ensures deciphered { text.new ≡ (if whole_blocks text.old then cbc_deciphered (B.inverse schedule.now) chain.old text.old else text.old) }
     ensures last_block_of_ciphertext { chain.new ≡ (if whole_blocks text.old then last_block chain.old text.old else chain.old) }
 {
     if !text.len().is_multiple_of(BLOCK) {
@@ -23,7 +23,7 @@ pub fn decipher<B: BlockCipher>(schedule: &[u8], chain: &mut [u8; 16], text: &mu
 // Deciphers a text of `n` blocks, one after the other.
 fn decipher_blocks<B: BlockCipher>(schedule: &[u8], n: usize, chain: &mut [u8; 16], text: &mut [u8])
     requires n_blocks { length text.old ≡ 16 * n }
-    ensures deciphered { text.new ≡ deciphered_blocks (inverse schedule.now) n chain.old text.old }
+    ensures deciphered { text.new ≡ deciphered_blocks (B.inverse schedule.now) n chain.old text.old }
     ensures last_block_of_ciphertext { chain.new ≡ last_block chain.old text.old }
 {
     for i in 0..n {
@@ -34,7 +34,7 @@ fn decipher_blocks<B: BlockCipher>(schedule: &[u8], n: usize, chain: &mut [u8; 1
 // Deciphers a block, chained to the block of ciphertext before it; what came in is the chain for the next.
 fn decipher_next<B: BlockCipher>(schedule: &[u8], chain: &mut [u8; 16], block: &mut [u8])
     requires one_block { length block.old ≡ 16 }
-    ensures deciphered { block.new ≡ xored (inverse schedule.now block.old) chain.old }
+    ensures deciphered { block.new ≡ xored (B.inverse schedule.now block.old) chain.old }
     ensures chain_for_the_next { chain.new ≡ block.old }
 {
     let mut plain = [0; 16];

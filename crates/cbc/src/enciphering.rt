@@ -10,8 +10,8 @@ use block::{BLOCK, BlockCipher, xor_over};
 // initialization vector, and afterwards the last block of ciphertext, to which the next part of a text is chained.
 pub fn encipher<B: BlockCipher>(schedule: &[u8], chain: &mut [u8; 16], text: &mut [u8]) -> bool
     ensures whether_in_whole_blocks { result ≡ whole_blocks text.old }
-    ensures enciphered { text.new ≡ (if whole_blocks text.old then cbc_enciphered (forward schedule.now) chain.old text.old else text.old) }
-    ensures last_block_of_ciphertext { chain.new ≡ (if whole_blocks text.old then last_block chain.old (cbc_enciphered (forward schedule.now) chain.old text.old) else chain.old) }
+    ensures enciphered { text.new ≡ (if whole_blocks text.old then cbc_enciphered (B.forward schedule.now) chain.old text.old else text.old) }
+    ensures last_block_of_ciphertext { chain.new ≡ (if whole_blocks text.old then last_block chain.old (cbc_enciphered (B.forward schedule.now) chain.old text.old) else chain.old) }
 {
     if !text.len().is_multiple_of(BLOCK) {
         return false;
@@ -23,8 +23,8 @@ pub fn encipher<B: BlockCipher>(schedule: &[u8], chain: &mut [u8; 16], text: &mu
 // Enciphers a text of `n` blocks, one after the other.
 fn encipher_blocks<B: BlockCipher>(schedule: &[u8], n: usize, chain: &mut [u8; 16], text: &mut [u8])
     requires n_blocks { length text.old ≡ 16 * n }
-    ensures enciphered { text.new ≡ enciphered_blocks (forward schedule.now) n chain.old text.old }
-    ensures last_block_of_ciphertext { chain.new ≡ last_block chain.old (enciphered_blocks (forward schedule.now) n chain.old text.old) }
+    ensures enciphered { text.new ≡ enciphered_blocks (B.forward schedule.now) n chain.old text.old }
+    ensures last_block_of_ciphertext { chain.new ≡ last_block chain.old (enciphered_blocks (B.forward schedule.now) n chain.old text.old) }
 {
     for i in 0..n {
         encipher_next::<B>(schedule, chain, &mut text[16 * i..16 * i + 16]);
@@ -34,8 +34,8 @@ fn encipher_blocks<B: BlockCipher>(schedule: &[u8], n: usize, chain: &mut [u8; 1
 // Enciphers a block, chained to the block of ciphertext before it; what comes out is the chain for the next.
 fn encipher_next<B: BlockCipher>(schedule: &[u8], chain: &mut [u8; 16], block: &mut [u8])
     requires one_block { length block.old ≡ 16 }
-    ensures enciphered { block.new ≡ forward schedule.now (xored block.old chain.old) }
-    ensures chain_for_the_next { chain.new ≡ forward schedule.now (xored block.old chain.old) }
+    ensures enciphered { block.new ≡ B.forward schedule.now (xored block.old chain.old) }
+    ensures chain_for_the_next { chain.new ≡ B.forward schedule.now (xored block.old chain.old) }
 {
     add_block(block, chain);
     B::encipher_block(schedule, chain);

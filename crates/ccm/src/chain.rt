@@ -9,7 +9,7 @@ use block::{BLOCK, BlockCipher, xor_over};
 
 // Adds `part` to the chaining value and enciphers the sum.
 fn take_in_part<B: BlockCipher>(schedule: &[u8], part: &[u8], value: &mut [u8; 16])
-    ensures sum_enciphered { value.new ≡ forward schedule.now (xored value.old part.now) }
+    ensures sum_enciphered { value.new ≡ B.forward schedule.now (xored value.old part.now) }
 {
     xor_over(part, value);
     B::encipher_block(schedule, value);
@@ -17,7 +17,7 @@ fn take_in_part<B: BlockCipher>(schedule: &[u8], part: &[u8], value: &mut [u8; 1
 
 // Takes `bytes` into the chaining value, in whole blocks.
 fn take_in<B: BlockCipher>(schedule: &[u8], bytes: &[u8], value: &mut [u8; 16])
-    ensures taken_in { value.new ≡ taken_in (forward schedule.now) value.old bytes.now }
+    ensures taken_in { value.new ≡ taken_in (B.forward schedule.now) value.old bytes.now }
 {
     let mut done = 0;
     while done < bytes.len() {
@@ -29,7 +29,7 @@ fn take_in<B: BlockCipher>(schedule: &[u8], bytes: &[u8], value: &mut [u8; 16])
 
 // Takes the associated data into the chaining value, behind its length.
 fn take_in_associated<B: BlockCipher>(schedule: &[u8], aad: &[u8], value: &mut [u8; 16])
-    ensures taken_in { value.new ≡ taken_in (forward schedule.now) value.old (associated aad.now) }
+    ensures taken_in { value.new ≡ taken_in (B.forward schedule.now) value.old (associated aad.now) }
 {
     if aad.len() == 0 {
         return;
@@ -53,7 +53,7 @@ pub(crate) fn authenticate<B: BlockCipher>(
     requires nonce_at_most { length nonce.now ≤ 13 }
     requires check_at_least { 4 ≤ check }
     requires check_at_most { check ≤ 16 }
-    ensures the_whole_check { value.new ≡ whole_check (forward schedule.now) check nonce.now aad.now text.now }
+    ensures the_whole_check { value.new ≡ whole_check (B.forward schedule.now) check nonce.now aad.now text.now }
 {
     first_block(nonce, aad, check, text.len(), value);
     B::encipher_block(schedule, value);

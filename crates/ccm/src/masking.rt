@@ -17,7 +17,7 @@ pub(crate) fn mask_part<B: BlockCipher>(
 )
     requires nonce_at_least { 7 ≤ length nonce.now }
     requires nonce_at_most { length nonce.now ≤ 13 }
-    ensures part_masked { part.new ≡ xored part.old (forward schedule.now (counter_block nonce.now number)) }
+    ensures part_masked { part.new ≡ xored part.old (B.forward schedule.now (counter_block nonce.now number)) }
 {
     let mut block = [0; BLOCK];
     counter_block(nonce, number, &mut block);
@@ -29,7 +29,7 @@ pub(crate) fn mask_part<B: BlockCipher>(
 fn mask<B: BlockCipher>(schedule: &[u8], nonce: &[u8], text: &mut [u8])
     requires nonce_at_least { 7 ≤ length nonce.now }
     requires nonce_at_most { length nonce.now ≤ 13 }
-    ensures text_masked { text.new ≡ masked (forward schedule.now) nonce.now text.old }
+    ensures text_masked { text.new ≡ masked (B.forward schedule.now) nonce.now text.old }
 {
     let mut done = 0;
     let mut number = 1;
@@ -51,7 +51,7 @@ pub(crate) fn mask_first<B: BlockCipher>(
     requires nonce_at_least { 7 ≤ length nonce.now }
     requires nonce_at_most { length nonce.now ≤ 13 }
     requires within { count ≤ length out.old }
-    ensures first_bytes_masked { out.new ≡ first_masked (forward schedule.now) nonce.now count out.old }
+    ensures first_bytes_masked { out.new ≡ first_masked (B.forward schedule.now) nonce.now count out.old }
 {
     mask::<B>(schedule, nonce, &mut out[0..count]);
 }
@@ -68,7 +68,7 @@ pub(crate) fn unmask<B: BlockCipher>(
     requires nonce_at_most { length nonce.now ≤ 13 }
     requires within_sealed { count ≤ length sealed.now }
     requires within { count ≤ length out.old }
-    ensures masked_then_old { out.new ≡ unmasked (forward schedule.now) nonce.now count sealed.now out.old }
+    ensures masked_then_old { out.new ≡ unmasked (B.forward schedule.now) nonce.now count sealed.now out.old }
 {
     copy_over(&sealed[0..count], out);
     mask_first::<B>(schedule, nonce, count, out);

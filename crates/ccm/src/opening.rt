@@ -23,8 +23,8 @@ pub fn open<B: BlockCipher>(
     sealed: &[u8],
     out: &mut [u8],
 ) -> Result<usize, Fault>
-    ensures text_counted { result ≡ counted (opening (forward schedule.now) check nonce.now aad.now sealed.now out.old) }
-    ensures text_or_zeros_then_old { out.new ≡ output_after (opening (forward schedule.now) check nonce.now aad.now sealed.now out.old) (length sealed.now - check) out.old }
+    ensures text_counted { result ≡ counted (opening (B.forward schedule.now) check nonce.now aad.now sealed.now out.old) }
+    ensures text_or_zeros_then_old { out.new ≡ output_after (opening (B.forward schedule.now) check nonce.now aad.now sealed.now out.old) (length sealed.now - check) out.old }
 {
     if !can_open(nonce.len(), check, sealed.len(), out.len()) {
         return Err(Fault::Size);
@@ -53,8 +53,8 @@ fn open_fitting<B: BlockCipher>(
     requires check_at_most { check ≤ 16 }
     requires within { text ≤ length sealed.now }
     requires room { text ≤ length out.old }
-    ensures whether_the_check_value_is_right { result ≡ same (drop text sealed.now) (check_value (forward schedule.now) check nonce.now aad.now (take text (unmasked (forward schedule.now) nonce.now text sealed.now out.old))) }
-    ensures text_or_zeros { out.new ≡ (if result then unmasked (forward schedule.now) nonce.now text sealed.now out.old else wiped text (unmasked (forward schedule.now) nonce.now text sealed.now out.old)) }
+    ensures whether_the_check_value_is_right { result ≡ same (drop text sealed.now) (check_value (B.forward schedule.now) check nonce.now aad.now (take text (unmasked (B.forward schedule.now) nonce.now text sealed.now out.old))) }
+    ensures text_or_zeros { out.new ≡ (if result then unmasked (B.forward schedule.now) nonce.now text sealed.now out.old else wiped text (unmasked (B.forward schedule.now) nonce.now text sealed.now out.old)) }
 {
     unmask::<B>(schedule, nonce, text, sealed, out);
     if !is_checked::<B>(schedule, nonce, aad, check, text, sealed, out) {
@@ -80,7 +80,7 @@ fn is_checked<B: BlockCipher>(
     requires check_at_most { check ≤ 16 }
     requires within_sealed { text ≤ length sealed.now }
     requires within { text ≤ length out.now }
-    ensures whether_they_are_the_same { result ≡ same (drop text sealed.now) (check_value (forward schedule.now) check nonce.now aad.now (take text out.now)) }
+    ensures whether_they_are_the_same { result ≡ same (drop text sealed.now) (check_value (B.forward schedule.now) check nonce.now aad.now (take text out.now)) }
 {
     let mut value = [0; BLOCK];
     authenticate::<B>(schedule, nonce, aad, check, &out[0..text], &mut value);

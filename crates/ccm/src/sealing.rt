@@ -20,8 +20,8 @@ pub fn seal<B: BlockCipher>(
     text: usize,
     out: &mut [u8],
 ) -> Result<usize, Fault>
-    ensures sealed_bytes_counted { result ≡ counted (sealing (forward schedule.now) check nonce.now aad.now text out.old) }
-    ensures sealed_bytes_then_old { out.new ≡ output_after (sealing (forward schedule.now) check nonce.now aad.now text out.old) 0 out.old }
+    ensures sealed_bytes_counted { result ≡ counted (sealing (B.forward schedule.now) check nonce.now aad.now text out.old) }
+    ensures sealed_bytes_then_old { out.new ≡ output_after (sealing (B.forward schedule.now) check nonce.now aad.now text out.old) 0 out.old }
 {
     if !can_seal(nonce.len(), check, text, out.len()) {
         return Err(Fault::Size);
@@ -44,7 +44,7 @@ fn seal_fitting<B: BlockCipher>(
     requires check_at_least { 4 ≤ check }
     requires check_at_most { check ≤ 16 }
     requires room { text + check ≤ length out.old }
-    ensures checked_then_masked { out.new ≡ first_masked (forward schedule.now) nonce.now text (check_placed (forward schedule.now) check nonce.now aad.now text out.old) }
+    ensures checked_then_masked { out.new ≡ first_masked (B.forward schedule.now) nonce.now text (check_placed (B.forward schedule.now) check nonce.now aad.now text out.old) }
 {
     place_check::<B>(schedule, nonce, aad, check, text, out);
     mask_first::<B>(schedule, nonce, text, out);
@@ -64,7 +64,7 @@ fn place_check<B: BlockCipher>(
     requires check_at_least { 4 ≤ check }
     requires check_at_most { check ≤ 16 }
     requires within { text ≤ length out.old }
-    ensures check_value_placed { out.new ≡ check_placed (forward schedule.now) check nonce.now aad.now text out.old }
+    ensures check_value_placed { out.new ≡ check_placed (B.forward schedule.now) check nonce.now aad.now text out.old }
 {
     let mut value = [0; BLOCK];
     authenticate::<B>(schedule, nonce, aad, check, &out[0..text], &mut value);

@@ -63,7 +63,7 @@ impl<R: Rounds> Chain<R> {
     fn take_in(&mut self, part: &[u8]) -> usize
         ensures some { 0 < length part.now → 0 < result }
         ensures within { result ≤ length part.now }
-        ensures absorbed { (x : List ℕ) → digest_after turned value self.new x ≡ digest_after turned value self.old (take result part.now ++ x) }
+        ensures absorbed { (x : List ℕ) → digest_after R.turned R.value self.new x ≡ digest_after R.turned R.value self.old (take result part.now ++ x) }
     {
         let filled = (self.total % 64) as usize;
         let n = part.len().min(64 - filled);
@@ -77,7 +77,7 @@ impl<R: Rounds> Chain<R> {
 
     // Takes in the padding, so that the hash value is that of the whole message.
     fn pad(&mut self)
-        ensures whole_message { word_bytes (value self.new.rounds) ≡ digest_after turned value self.old [] }
+        ensures whole_message { word_bytes (R.value self.new.rounds) ≡ digest_after R.turned R.value self.old [] }
     {
         self.end_message();
         write_u64(self.total.wrapping_mul(8), &mut self.block, 56);
@@ -86,7 +86,7 @@ impl<R: Rounds> Chain<R> {
 
     // Marks the end of the message. Where the count of bits does not fit after it, takes the block in and starts another.
     fn end_message(&mut self)
-        ensures full_block_taken_in { value self.new.rounds ≡ (if nat_lt (self.old.total % 64) 56 then value self.old.rounds else turned (value self.old.rounds) (marked (self.old.total % 64) self.old.block)) }
+        ensures full_block_taken_in { R.value self.new.rounds ≡ (if nat_lt (self.old.total % 64) 56 then R.value self.old.rounds else R.turned (R.value self.old.rounds) (marked (self.old.total % 64) self.old.block)) }
         ensures end_marked { self.new.block ≡ (if nat_lt (self.old.total % 64) 56 then marked (self.old.total % 64) self.old.block else zeros 64) }
         ensures total_kept { self.new.total ≡ self.old.total }
     {

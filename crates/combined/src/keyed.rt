@@ -13,10 +13,10 @@ use suite::{Fault, Inputs};
 
 // Writes the schedule of a key over the start of `work` and answers its length. Each key that is taken has room there.
 fn expand<B: BlockCipher>(key: &[u8], work: &mut [u8]) -> usize
-    requires taken { is_some (scheduled (length key.now)) ≡ true }
+    requires taken { is_some (B.scheduled (length key.now)) ≡ true }
     requires work_bytes { 240 ≤ length work.old }
     ensures within_work { result ≤ length work.new }
-    ensures schedule_at_the_start { take result work.new ≡ expanded key.now }
+    ensures schedule_at_the_start { take result work.new ≡ B.expanded key.now }
 {
     B::expand_key(key, work).unwrap_or(0)
 }
@@ -28,14 +28,14 @@ pub(crate) fn seal_keyed<B: BlockCipher>(
     out: &mut [u8],
     work: &mut [u8],
 ) -> Result<usize, Fault>
-    requires taken { is_some (scheduled (length (given inputs).key)) ≡ true }
+    requires taken { is_some (B.scheduled (length (given inputs).key)) ≡ true }
     requires salt_size { length (given inputs).salt ≡ 3 }
     requires vector_size { length (given inputs).vector ≡ 8 }
     requires short { text < 2 ^ 32 }
     requires room { text + 16 ≤ length out.old }
     requires work_bytes { 240 ≤ length work.old }
-    ensures sealed_bytes_counted { result ≡ Ok (length (ccm_sealed expanded forward (given inputs.entry) (take text out.old))) }
-    ensures sealed_bytes_then_old { out.new ≡ over (ccm_sealed expanded forward (given inputs.entry) (take text out.old)) out.old }
+    ensures sealed_bytes_counted { result ≡ Ok (length (ccm_sealed B.expanded B.forward (given inputs.entry) (take text out.old))) }
+    ensures sealed_bytes_then_old { out.new ≡ over (ccm_sealed B.expanded B.forward (given inputs.entry) (take text out.old)) out.old }
 {
     let mut nonce = [0; NONCE];
     write_nonce(inputs, &mut nonce);
@@ -50,15 +50,15 @@ pub(crate) fn open_keyed<B: BlockCipher>(
     out: &mut [u8],
     work: &mut [u8],
 ) -> Result<usize, Fault>
-    requires taken { is_some (scheduled (length (given inputs).key)) ≡ true }
+    requires taken { is_some (B.scheduled (length (given inputs).key)) ≡ true }
     requires salt_size { length (given inputs).salt ≡ 3 }
     requires vector_size { length (given inputs).vector ≡ 8 }
     requires check_size { 16 ≤ length sealed.now }
     requires short { length sealed.now - 16 < 2 ^ 32 }
     requires room { length sealed.now - 16 ≤ length out.old }
     requires work_bytes { 240 ≤ length work.old }
-    ensures text_counted { result ≡ counted (ok_or (ccm_opened expanded forward (given inputs.entry) sealed.now) Mismatch) }
-    ensures text_or_zeros_then_old { out.new ≡ output_after (ok_or (ccm_opened expanded forward (given inputs.entry) sealed.now) Mismatch) (length sealed.now - 16) out.old }
+    ensures text_counted { result ≡ counted (ok_or (ccm_opened B.expanded B.forward (given inputs.entry) sealed.now) Mismatch) }
+    ensures text_or_zeros_then_old { out.new ≡ output_after (ok_or (ccm_opened B.expanded B.forward (given inputs.entry) sealed.now) Mismatch) (length sealed.now - 16) out.old }
 {
     let mut nonce = [0; NONCE];
     write_nonce(inputs, &mut nonce);

@@ -23,8 +23,8 @@ pub(crate) fn seal_scheduled<B: BlockCipher>(
 ) -> Result<usize, Fault>
     requires short { text < 2 ^ 32 }
     requires room { text + 16 ≤ length out.old }
-    ensures sealed_bytes_counted { result ≡ Ok (length (sealed (forward schedule.now) 16 nonce.now head.now (take text out.old))) }
-    ensures sealed_bytes_then_old { out.new ≡ over (sealed (forward schedule.now) 16 nonce.now head.now (take text out.old)) out.old }
+    ensures sealed_bytes_counted { result ≡ Ok (length (sealed (B.forward schedule.now) 16 nonce.now head.now (take text out.old))) }
+    ensures sealed_bytes_then_old { out.new ≡ over (sealed (B.forward schedule.now) 16 nonce.now head.now (take text out.old)) out.old }
 {
     suite_answer(ccm::seal::<B>(schedule, nonce, head, CHECK, text, out))
 }
@@ -40,8 +40,8 @@ pub(crate) fn open_scheduled<B: BlockCipher>(
     requires check_size { 16 ≤ length bytes.now }
     requires short { length bytes.now - 16 < 2 ^ 32 }
     requires room { length bytes.now - 16 ≤ length out.old }
-    ensures text_counted { result ≡ counted (ok_or (opened (forward schedule.now) 16 nonce.now head.now bytes.now) Mismatch) }
-    ensures text_or_zeros_then_old { out.new ≡ output_after (ok_or (opened (forward schedule.now) 16 nonce.now head.now bytes.now) Mismatch) (length bytes.now - 16) out.old }
+    ensures text_counted { result ≡ counted (ok_or (opened (B.forward schedule.now) 16 nonce.now head.now bytes.now) Mismatch) }
+    ensures text_or_zeros_then_old { out.new ≡ output_after (ok_or (opened (B.forward schedule.now) 16 nonce.now head.now bytes.now) Mismatch) (length bytes.now - 16) out.old }
 {
     suite_answer(ccm::open::<B>(schedule, nonce, head, CHECK, bytes, out))
 }

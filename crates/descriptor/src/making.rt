@@ -37,10 +37,10 @@ pub fn make<'a, S: Suite>(
     out: &mut [u8],
     work: &mut [u8],
 ) -> Result<usize, Fault>
-    ensures length_answered { result ≡ answer (making (meaning suite.now) under.entry label vector.now «data».now out.old work.old) }
-    ensures descriptor_then_old { out.new ≡ output_after (making (meaning suite.now) under.entry label vector.now «data».now out.old work.old) out.old }
-    ensures work_bytes_zero { work.new ≡ work_after (making (meaning suite.now) under.entry label vector.now «data».now out.old work.old) work.old }
-    ensures opens_to_its_data { IfOk result (λ n. OpensTo (meaning suite.now) under.entry label «data».now (take n out.new)) }
+    ensures length_answered { result ≡ answer (making (S.meaning suite.now) under.entry label vector.now «data».now out.old work.old) }
+    ensures descriptor_then_old { out.new ≡ output_after (making (S.meaning suite.now) under.entry label vector.now «data».now out.old work.old) out.old }
+    ensures work_bytes_zero { work.new ≡ work_after (making (S.meaning suite.now) under.entry label vector.now «data».now out.old work.old) work.old }
+    ensures opens_to_its_data { IfOk result (λ n. OpensTo (S.meaning suite.now) under.entry label «data».now (take n out.new)) }
 {
     all_bytes(under, vector, data);
     let sizes = suite.sizes(under.triple).ok_or(suite::Fault::NotServed)?;
@@ -189,11 +189,11 @@ fn make_fitting<'a, S: Suite>(
     out: &mut [u8],
     work: &mut [u8],
 ) -> Result<usize, Fault>
-    requires served { (meaning suite.now).serves under.triple ≡ Some sizes }
+    requires served { (S.meaning suite.now).serves under.triple ≡ Some sizes }
     requires bounded { Bounded under.triple sizes }
     requires fits { Makeable under label.form sizes (length vector.now) (length «data».now) (length out.old) (length work.old) }
-    ensures length_answered { result ≡ Ok (length (made_bytes (meaning suite.now) under.entry label vector.now «data».now out.old work.old sizes)) }
-    ensures descriptor_then_old { out.new ≡ over (made_bytes (meaning suite.now) under.entry label vector.now «data».now out.old work.old sizes) out.old }
+    ensures length_answered { result ≡ Ok (length (made_bytes (S.meaning suite.now) under.entry label vector.now «data».now out.old work.old sizes)) }
+    ensures descriptor_then_old { out.new ≡ over (made_bytes (S.meaning suite.now) under.entry label vector.now «data».now out.old work.old sizes) out.old }
     ensures work_bytes_zero { work.new ≡ wiped 240 work.old }
 {
     let text = text_length(sizes, data.len());

@@ -32,10 +32,10 @@ pub fn open<S: Suite>(
     data: &mut [u8],
     work: &mut [u8],
 ) -> Result<Opened, Fault>
-    ensures label_and_data_length_answered { result ≡ with_label (framed list.now place span) (answer (opening (meaning suite.now) under.entry list.now «data».old work.old place span)) }
-    ensures data_then_zeros_then_old { «data».new ≡ data_after (opening (meaning suite.now) under.entry list.now «data».old work.old place span) «data».old }
-    ensures work_bytes_zero { work.new ≡ work_after (opening (meaning suite.now) under.entry list.now «data».old work.old place span) work.old }
-    ensures what_opens_was_sealed { IfOk result (λ o. ((f : Frame) → framed list.now place span ≡ Ok f → SealingOf (meaning suite.now) under.entry list.now f (take o.length «data».new))) }
+    ensures label_and_data_length_answered { result ≡ with_label (framed list.now place span) (answer (opening (S.meaning suite.now) under.entry list.now «data».old work.old place span)) }
+    ensures data_then_zeros_then_old { «data».new ≡ data_after (opening (S.meaning suite.now) under.entry list.now «data».old work.old place span) «data».old }
+    ensures work_bytes_zero { work.new ≡ work_after (opening (S.meaning suite.now) under.entry list.now «data».old work.old place span) work.old }
+    ensures what_opens_was_sealed { IfOk result (λ o. ((f : Frame) → framed list.now place span ≡ Ok f → SealingOf (S.meaning suite.now) under.entry list.now f (take o.length «data».new))) }
 {
     let frame = read_frame(list, place, span)?;
     let length = open_frame(suite, under, list, frame, data, work)?;
@@ -55,10 +55,10 @@ pub fn open_frame<S: Suite>(
     data: &mut [u8],
     work: &mut [u8],
 ) -> Result<usize, Fault>
-    ensures data_length_answered { result ≡ answer (frame_opening (meaning suite.now) under.entry list.now «data».old work.old frame) }
-    ensures data_then_zeros_then_old { «data».new ≡ data_after (frame_opening (meaning suite.now) under.entry list.now «data».old work.old frame) «data».old }
-    ensures work_bytes_zero { work.new ≡ work_after (frame_opening (meaning suite.now) under.entry list.now «data».old work.old frame) work.old }
-    ensures what_opens_was_sealed { IfOk result (λ n. SealingOf (meaning suite.now) under.entry list.now frame (take n «data».new)) }
+    ensures data_length_answered { result ≡ answer (frame_opening (S.meaning suite.now) under.entry list.now «data».old work.old frame) }
+    ensures data_then_zeros_then_old { «data».new ≡ data_after (frame_opening (S.meaning suite.now) under.entry list.now «data».old work.old frame) «data».old }
+    ensures work_bytes_zero { work.new ≡ work_after (frame_opening (S.meaning suite.now) under.entry list.now «data».old work.old frame) work.old }
+    ensures what_opens_was_sealed { IfOk result (λ n. SealingOf (S.meaning suite.now) under.entry list.now frame (take n «data».new)) }
 {
     bytes_are_octets(list);
     bytes_are_octets(under.key);
@@ -83,16 +83,16 @@ fn open_parts<'a, S: Suite>(
     data: &mut [u8],
     work: &mut [u8],
 ) -> Result<usize, Fault>
-    requires served { (meaning suite.now).serves under.triple ≡ Some sizes }
+    requires served { (S.meaning suite.now).serves under.triple ≡ Some sizes }
     requires in_a_row { InARow frame sizes.vector sizes.check parts }
     requires in_the_list { frame.end ≤ length list.now }
     requires list_bytes { Octets list.now }
     requires key_bytes { Octets under.key.now }
     requires salt_bytes { Octets under.salt.now }
     requires integrity_bytes { Octets under.integrity.now }
-    ensures data_length_answered { result ≡ answer (parts_opening (meaning suite.now) under.entry list.now «data».old work.old sizes frame (Ok parts)) }
-    ensures data_then_zeros_then_old { «data».new ≡ data_after (parts_opening (meaning suite.now) under.entry list.now «data».old work.old sizes frame (Ok parts)) «data».old }
-    ensures work_bytes_zero { work.new ≡ work_after (parts_opening (meaning suite.now) under.entry list.now «data».old work.old sizes frame (Ok parts)) work.old }
+    ensures data_length_answered { result ≡ answer (parts_opening (S.meaning suite.now) under.entry list.now «data».old work.old sizes frame (Ok parts)) }
+    ensures data_then_zeros_then_old { «data».new ≡ data_after (parts_opening (S.meaning suite.now) under.entry list.now «data».old work.old sizes frame (Ok parts)) «data».old }
+    ensures work_bytes_zero { work.new ≡ work_after (parts_opening (S.meaning suite.now) under.entry list.now «data».old work.old sizes frame (Ok parts)) work.old }
 {
     let head = frame.head;
     let vector = parts.vector;
@@ -126,16 +126,16 @@ fn open_text<S: Suite>(
     data: &mut [u8],
     work: &mut [u8],
 ) -> Result<usize, Fault>
-    requires served { (meaning suite.now).serves triple ≡ Some sizes }
+    requires served { (S.meaning suite.now).serves triple ≡ Some sizes }
     requires key_bytes { Octets inputs.key.now }
     requires salt_bytes { Octets inputs.salt.now }
     requires integrity_bytes { Octets inputs.integrity.now }
     requires head_bytes { Octets inputs.head.now }
     requires vector_bytes { Octets inputs.vector.now }
     requires sealed_bytes { Octets sealed.now }
-    ensures data_length_answered { result ≡ answer (concluded sizes (length sealed.now - sizes.check) (suiteOpening (meaning suite.now) triple (given inputs.entry) sealed.now «data».old work.old)) }
-    ensures data_then_zeros_then_old { «data».new ≡ data_after (concluded sizes (length sealed.now - sizes.check) (suiteOpening (meaning suite.now) triple (given inputs.entry) sealed.now «data».old work.old)) «data».old }
-    ensures work_bytes_zero { work.new ≡ work_after (concluded sizes (length sealed.now - sizes.check) (suiteOpening (meaning suite.now) triple (given inputs.entry) sealed.now «data».old work.old)) work.old }
+    ensures data_length_answered { result ≡ answer (concluded sizes (length sealed.now - sizes.check) (suiteOpening (S.meaning suite.now) triple (given inputs.entry) sealed.now «data».old work.old)) }
+    ensures data_then_zeros_then_old { «data».new ≡ data_after (concluded sizes (length sealed.now - sizes.check) (suiteOpening (S.meaning suite.now) triple (given inputs.entry) sealed.now «data».old work.old)) «data».old }
+    ensures work_bytes_zero { work.new ≡ work_after (concluded sizes (length sealed.now - sizes.check) (suiteOpening (S.meaning suite.now) triple (given inputs.entry) sealed.now «data».old work.old)) work.old }
 {
     let text = suite.open(triple, inputs, sealed, data, work)?;
     unpad(sizes, text, data)

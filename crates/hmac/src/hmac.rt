@@ -24,7 +24,7 @@ pub struct Hmac<H> {
 impl<H: Hash> Hmac<H> {
     // Begins a check value under `key`, of any length.
     pub fn new(key: &[u8]) -> Self
-        ensures keyed { (x : List ℕ) → mac_after after size result x ≡ hmac digest block key.now x }
+        ensures keyed { (x : List ℕ) → mac_after H.after H.size result x ≡ hmac H.digest H.block key.now x }
     {
         let mut room = [0; LONGEST_BLOCK];
         let n = H::block_size();
@@ -33,14 +33,14 @@ impl<H: Hash> Hmac<H> {
 
     // Absorbs `part` of the message after what came before.
     pub fn absorb(&mut self, part: &[u8])
-        ensures absorbed { (x : List ℕ) → mac_after after size self.new x ≡ mac_after after size self.old (part.now ++ x) }
+        ensures absorbed { (x : List ℕ) → mac_after H.after H.size self.new x ≡ mac_after H.after H.size self.old (part.now ++ x) }
     {
         self.inner.absorb(part);
     }
 
     // Writes the check value over the start of `out`, as far as `out` reaches.
     pub fn finish(self, out: &mut [u8])
-        ensures check_value_over_the_start { out.new ≡ over (mac_after after size self []) out.old }
+        ensures check_value_over_the_start { out.new ≡ over (mac_after H.after H.size self []) out.old }
     {
         let Hmac { inner, mut outer } = self;
         let mut room = [0; LONGEST_BLOCK];
@@ -52,10 +52,10 @@ impl<H: Hash> Hmac<H> {
 
 // The two hashes, each begun with the key block under its pad. The block is made in `room`, and wiped there.
 fn begun_in<H: Hash>(key: &[u8], room: &mut [u8]) -> Hmac<H>
-    requires a_block { length room.old ≡ block }
-    ensures inner_begun { (x : List ℕ) → after result.inner x ≡ digest (padded ipad (key_block digest block key.now) ++ x) }
-    ensures outer_begun { (x : List ℕ) → after result.outer x ≡ digest (padded opad (key_block digest block key.now) ++ x) }
-    ensures key_wiped { room.new ≡ zeros block }
+    requires a_block { length room.old ≡ H.block }
+    ensures inner_begun { (x : List ℕ) → H.after result.inner x ≡ H.digest (padded ipad (key_block H.digest H.block key.now) ++ x) }
+    ensures outer_begun { (x : List ℕ) → H.after result.outer x ≡ H.digest (padded opad (key_block H.digest H.block key.now) ++ x) }
+    ensures key_wiped { room.new ≡ zeros H.block }
 {
     store_key::<H>(key, room);
     let inner = begun(room, INNER_PAD);
@@ -66,8 +66,8 @@ fn begun_in<H: Hash>(key: &[u8], room: &mut [u8]) -> Hmac<H>
 
 // Makes the key block in `room`: the key, or its digest where it is longer than a block, and zeros.
 fn store_key<H: Hash>(key: &[u8], room: &mut [u8])
-    requires a_block { length room.old ≡ block }
-    ensures the_key_block { room.new ≡ key_block digest block key.now }
+    requires a_block { length room.old ≡ H.block }
+    ensures the_key_block { room.new ≡ key_block H.digest H.block key.now }
 {
     wipe(room);
     if key.len() <= room.len() {
@@ -79,7 +79,7 @@ fn store_key<H: Hash>(key: &[u8], room: &mut [u8])
 
 // The digest of `message`, over the start of `out`.
 fn digest_over<H: Hash>(message: &[u8], out: &mut [u8])
-    ensures digest_over_the_start { out.new ≡ over (digest message.now) out.old }
+    ensures digest_over_the_start { out.new ≡ over (H.digest message.now) out.old }
 {
     let mut hash = H::new();
     hash.absorb(message);
@@ -88,7 +88,7 @@ fn digest_over<H: Hash>(message: &[u8], out: &mut [u8])
 
 // A hash that has absorbed `room` with `pad` on each byte; `room` is left as it was.
 fn begun<H: Hash>(room: &mut [u8], pad: u8) -> H
-    ensures padded_absorbed { (x : List ℕ) → after result x ≡ digest (padded pad room.old ++ x) }
+    ensures padded_absorbed { (x : List ℕ) → H.after result x ≡ H.digest (padded pad room.old ++ x) }
     ensures room_kept { room.new ≡ room.old }
 {
     let mut hash = H::new();
@@ -109,8 +109,8 @@ fn pad_each(bytes: &mut [u8], pad: u8)
 
 // Lets `outer` absorb the digest of `inner`, which goes through `room`; that holds no bytes of before.
 fn pass_on<H: Hash>(inner: H, outer: &mut H, room: &mut [u8])
-    requires a_digest { length room.old ≡ size }
-    ensures digest_absorbed { (x : List ℕ) → after outer.new x ≡ after outer.old (over (after inner []) (zeros size) ++ x) }
+    requires a_digest { length room.old ≡ H.size }
+    ensures digest_absorbed { (x : List ℕ) → H.after outer.new x ≡ H.after outer.old (over (H.after inner []) (zeros H.size) ++ x) }
 {
     wipe(room);
     inner.finish(room);

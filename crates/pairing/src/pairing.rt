@@ -88,7 +88,7 @@ impl<C: Cipher, I: Integrity> Suite for Pairing<C, I> {
 impl<C: Cipher, I: Integrity> Pairing<C, I> {
     // Writes the check value over an enciphered text over the start of `out`.
     fn check_value(&self, triple: Triple, inputs: Inputs<'_>, text: &[u8], out: &mut [u8])
-        ensures check_value_then_old { out.new ≡ over (check_value (ciphers self.now.cipher) (checks self.now.integrity) triple (given inputs.entry) text.now) out.old }
+        ensures check_value_then_old { out.new ≡ over (check_value (C.ciphers self.now.cipher) (I.checks self.now.integrity) triple (given inputs.entry) text.now) out.old }
     {
         self.integrity.check(
             triple.integrity,
@@ -110,10 +110,10 @@ impl<C: Cipher, I: Integrity> Pairing<C, I> {
         out: &mut [u8],
         work: &mut [u8],
     ) -> Result<usize, Fault>
-        requires served { pair_serves (ciphers self.now.cipher) (checks self.now.integrity) triple ≡ Some sizes }
+        requires served { pair_serves (C.ciphers self.now.cipher) (I.checks self.now.integrity) triple ≡ Some sizes }
         requires fits { Sealable triple sizes (given inputs) text (length out.old) (length work.old) }
-        ensures sealed_bytes_counted { result ≡ Ok (length (pair_sealed (ciphers self.now.cipher) (checks self.now.integrity) triple (given inputs.entry) (take text out.old))) }
-        ensures sealed_bytes_then_old { out.new ≡ over (pair_sealed (ciphers self.now.cipher) (checks self.now.integrity) triple (given inputs.entry) (take text out.old)) out.old }
+        ensures sealed_bytes_counted { result ≡ Ok (length (pair_sealed (C.ciphers self.now.cipher) (I.checks self.now.integrity) triple (given inputs.entry) (take text out.old))) }
+        ensures sealed_bytes_then_old { out.new ≡ over (pair_sealed (C.ciphers self.now.cipher) (I.checks self.now.integrity) triple (given inputs.entry) (take text out.old)) out.old }
     {
         self.cipher.encipher(
             triple.encryption,
@@ -139,10 +139,10 @@ impl<C: Cipher, I: Integrity> Pairing<C, I> {
         out: &mut [u8],
         work: &mut [u8],
     ) -> Result<usize, Fault>
-        requires served { pair_serves (ciphers self.now.cipher) (checks self.now.integrity) triple ≡ Some sizes }
+        requires served { pair_serves (C.ciphers self.now.cipher) (I.checks self.now.integrity) triple ≡ Some sizes }
         requires fits { Openable triple sizes (given inputs) (length sealed.now) (length out.old) (length work.old) }
-        ensures text_counted { result ≡ counted (ok_or (pair_opened (ciphers self.now.cipher) (checks self.now.integrity) triple (given inputs.entry) sealed.now) Mismatch) }
-        ensures text_or_zeros_then_old { out.new ≡ output_after (ok_or (pair_opened (ciphers self.now.cipher) (checks self.now.integrity) triple (given inputs.entry) sealed.now) Mismatch) (length sealed.now - sizes.check) out.old }
+        ensures text_counted { result ≡ counted (ok_or (pair_opened (C.ciphers self.now.cipher) (I.checks self.now.integrity) triple (given inputs.entry) sealed.now) Mismatch) }
+        ensures text_or_zeros_then_old { out.new ≡ output_after (ok_or (pair_opened (C.ciphers self.now.cipher) (I.checks self.now.integrity) triple (given inputs.entry) sealed.now) Mismatch) (length sealed.now - sizes.check) out.old }
     {
         let check = sizes.check;
         let n = sealed.len() - check;

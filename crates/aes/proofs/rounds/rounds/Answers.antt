@@ -6,4 +6,4 @@ pub loop-i-init : goal.loop-i-init
 loop-i-init c = rounds_to-none _ _
 
 pub loop-i-preserved : goal.loop-i-preserved
-loop-i-preserved c = rounds_to-more _ _ _ _ _ c.loop-i.invariant c.round.ensures.one-round
+loop-i-preserved c = rounds_to-more _ _ _ _ _ c.loop-i.invariant c.round.ensures.one_round

@@ -12,4 +12,4 @@ loop-m-preserved c =
     let old = c.args.work.now in
     let nk = c.args.nk in
     grown-more nk c.loop-m.m (take (4 * nk) old) old _ _ (omega arith) (length-take-le (4 * nk) old (omega arith)) (omega arith)
-    c.loop-m.invariant c.add-word.ensures.word-behind
+    c.loop-m.invariant c.add_word.ensures.word_behind

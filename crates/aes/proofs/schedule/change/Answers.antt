@@ -4,11 +4,11 @@ use Rattle.std.proofs.lemmas.Nat.{div_below, le-div}
 use Rattle.aes.specs.Schedule.{changed}
 use Rattle.aes.proofs.schedule.change.Goals as goal
 
-pub turn-word-requires : goal.turn-word-requires
-turn-word-requires c =
+pub turn_word-requires : goal.turn_word-requires
+turn_word-requires c =
     let below = div_below c.args.i c.args.nk 11 (omega arith) (omega arith) in
     let above = le-div 1 c.args.i c.args.nk (omega arith) (omega arith) in
-    record { from_one = above; up-to-ten = omega arith }
+    record { from_one = above; up_to_ten = omega arith }
 
 pub returns-then-i-nk-eq0 : goal.returns-then-i-nk-eq0
 unfolding changed

@@ -5,7 +5,7 @@ use Rattle.aes.proofs.schedule.expand.Goals as goal
 pub returns : goal.returns
 returns c =
     record {
-      schedule-then-old =
-          expanded-over c.args.key.now c.args.work.now _ _ c.requires.four-words c.requires.whole_words c.requires.room
-          c.copy-over.ensures.bytes-then-old c.add-words.ensures.words-behind;
+      schedule_then_old =
+          expanded-over c.args.key.now c.args.work.now _ _ c.requires.four_words c.requires.whole_words c.requires.room
+          c.copy_over.ensures.bytes_then_old c.add_words.ensures.words_behind;
     }

@@ -7,7 +7,7 @@ pub returns : goal.returns
 returns c =
     let sized : length c.args.t.now ≡ 4 = search rules in
     record {
-      each-byte =
-          sub_word-out c.args.t.now sized c.sub-byte.ensures.of-the-table c.sub-byte-2.ensures.of-the-table
-          c.sub-byte-3.ensures.of-the-table c.sub-byte-4.ensures.of-the-table;
+      each_byte =
+          sub_word-out c.args.t.now sized c.sub_byte.ensures.of_the_table c.sub_byte-2.ensures.of_the_table
+          c.sub_byte-3.ensures.of_the_table c.sub_byte-4.ensures.of_the_table;
     }

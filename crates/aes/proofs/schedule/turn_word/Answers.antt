@@ -7,7 +7,7 @@ pub returns : goal.returns
 returns c =
     let sized : length c.args.t.now ≡ 4 = search rules in
     record {
-      turned-and-summed =
-          turned-out c.args.t.now c.args.j sized c.sub-byte.ensures.of-the-table c.sub-byte-2.ensures.of-the-table
-          c.sub-byte-3.ensures.of-the-table c.sub-byte-4.ensures.of-the-table c.round-constant.ensures.of-the-table;
+      turned_and_summed =
+          turned-out c.args.t.now c.args.j sized c.sub_byte.ensures.of_the_table c.sub_byte-2.ensures.of_the_table
+          c.sub_byte-3.ensures.of_the_table c.sub_byte-4.ensures.of_the_table c.round_constant.ensures.of_the_table;
     }

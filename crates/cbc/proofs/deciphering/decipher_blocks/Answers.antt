@@ -7,10 +7,10 @@ loop-i-init g c = deciphering-starts (g.B.BlockCipher.inverse c.args.schedule.no
 
 pub loop-i-preserved : goal.loop-i-preserved
 loop-i-preserved g c =
-    deciphering-more (g.B.BlockCipher.inverse c.args.schedule.now) _ _ _ _ _ _ _ _ _ c.loop-i-test.true (search rules) (omega arith) (search rules) c.decipher-next.array_long
-    c.decipher-next.ensures.deciphered c.decipher-next.ensures.chain-for-the-next c.loop-i.invariant
+    deciphering-more (g.B.BlockCipher.inverse c.args.schedule.now) _ _ _ _ _ _ _ _ _ c.loop-i-test.true (search rules) (omega arith) (search rules) c.decipher_next.array_long
+    c.decipher_next.ensures.deciphered c.decipher_next.ensures.chain_for_the_next c.loop-i.invariant
 
 pub returns : goal.returns
 returns g c =
     let done = deciphering-ends (g.B.BlockCipher.inverse c.args.schedule.now) _ _ _ _ _ _ (search rules) (search rules) c.loop-i.invariant in
-    record { deciphered = done.0; last-block-of-ciphertext = done.1 }
+    record { deciphered = done.0; last_block_of_ciphertext = done.1 }

@@ -8,9 +8,9 @@ loop-i-init g c = enciphering-starts (g.B.BlockCipher.forward c.args.schedule.no
 pub loop-i-preserved : goal.loop-i-preserved
 loop-i-preserved g c =
     enciphering-more (g.B.BlockCipher.forward c.args.schedule.now) _ _ _ _ _ _ _ _ _ c.loop-i-test.true (search rules) (omega arith) (search rules)
-    c.encipher-next.ensures.enciphered c.encipher-next.ensures.chain-for-the-next c.loop-i.invariant
+    c.encipher_next.ensures.enciphered c.encipher_next.ensures.chain_for_the_next c.loop-i.invariant
 
 pub returns : goal.returns
 returns g c =
     let done = enciphering-ends (g.B.BlockCipher.forward c.args.schedule.now) _ _ _ _ _ _ (search rules) (search rules) c.loop-i.invariant in
-    record { enciphered = done.0; last-block-of-ciphertext = done.1 }
+    record { enciphered = done.0; last_block_of_ciphertext = done.1 }

@@ -6,5 +6,5 @@ use Rattle.ccm.proofs.blocks.counter_block.Goals as goal
 pub returns : goal.returns
 unfolding counter_block
 returns c = record {
-  the-counter-block = c.head-block.ensures.first-nonce-number ∙ ap (λ b. headed b c.args.nonce.now c.args.number) (omega arith);
+  the_counter_block = c.head_block.ensures.first_nonce_number ∙ ap (λ b. headed b c.args.nonce.now c.args.number) (omega arith);
 }

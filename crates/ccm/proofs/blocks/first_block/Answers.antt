@@ -6,7 +6,7 @@ use Rattle.ccm.proofs.blocks.first_block.Goals as goal
 pub returns : goal.returns
 unfolding first_block flags
 returns c = record {
-  the-first-block =
-      c.head-block.ensures.first-nonce-number
-      ∙ ap (λ b. headed b c.args.nonce.now c.args.text) c.first-byte-flags.ensures.as-flags;
+  the_first_block =
+      c.head_block.ensures.first_nonce_number
+      ∙ ap (λ b. headed b c.args.nonce.now c.args.text) c.first_byte-flags.ensures.as_flags;
 }

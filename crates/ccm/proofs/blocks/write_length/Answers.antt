@@ -5,28 +5,28 @@ use Rattle.octets.specs.Octets.{over}
 use Rattle.ccm.proofs.BlockBytes.{short-length, middle-length, long-length, placed-start, placed-two}
 use Rattle.ccm.proofs.blocks.write_length.Goals as goal
 
-pub returns-then-is-short : goal.returns-then-is-short
-returns-then-is-short c =
+pub returns-then-is_short : goal.returns-then-is_short
+returns-then-is_short c =
     let n = c.args.count in
     let block = c.args.block.now in
-    let is = short-length n c.requires.some (ltb-true n 0xff00 (sym c.is-short.ensures.below-the-limit ∙ c.if-is-short.true)) in
+    let is = short-length n c.requires.some (ltb-true n 0xff00 (sym c.is_short.ensures.below_the_limit ∙ c.if-is_short.true)) in
     record {
-      at-most-ten = omega arith;
+      at_most_ten = omega arith;
       bytes_counted = ap length (sym is);
-      length-then-old = c.write-u16.ensures.written ∙ (placed-start (big_endian 2 n) block (omega arith) ∙ ap (λ z. over z block) (sym is));
+      length_then_old = c.write_u16.ensures.written ∙ (placed-start (big_endian 2 n) block (omega arith) ∙ ap (λ z. over z block) (sym is));
     }
 
 pub returns-then-count-lt-FOUR-BYTES : goal.returns-then-count-lt-FOUR-BYTES
 returns-then-count-lt-FOUR-BYTES c =
     let n = c.args.count in
     let block = c.args.block.now in
-    let above = ltb-false n 0xff00 (sym c.is-short.ensures.below-the-limit ∙ c.if-is-short.false) in
+    let above = ltb-false n 0xff00 (sym c.is_short.ensures.below_the_limit ∙ c.if-is_short.false) in
     let is = middle-length n above c.if-count-lt-FOUR-BYTES.true in
     record {
-      at-most-ten = omega arith;
+      at_most_ten = omega arith;
       bytes_counted = ap length (sym is);
-      length-then-old =
-          c.write-u32.ensures.written ∙ (placed-two 0xff 0xfe (big_endian 4 n) block (omega arith) ∙ ap (λ z. over z block) (sym is));
+      length_then_old =
+          c.write_u32.ensures.written ∙ (placed-two 0xff 0xfe (big_endian 4 n) block (omega arith) ∙ ap (λ z. over z block) (sym is));
     }
 
 pub returns : goal.returns
@@ -35,8 +35,8 @@ returns c =
     let block = c.args.block.now in
     let is = long-length n c.if-count-lt-FOUR-BYTES.false in
     record {
-      at-most-ten = omega arith;
+      at_most_ten = omega arith;
       bytes_counted = ap length (sym is);
-      length-then-old =
-          c.write-u64.ensures.written ∙ (placed-two 0xff 0xff (big_endian 8 n) block (omega arith) ∙ ap (λ z. over z block) (sym is));
+      length_then_old =
+          c.write_u64.ensures.written ∙ (placed-two 0xff 0xff (big_endian 8 n) block (omega arith) ∙ ap (λ z. over z block) (sym is));
     }

@@ -6,8 +6,8 @@ pub loop-done-preserved : goal.loop-done-preserved
 loop-done-preserved g c = (
   search rules,
   taken_step (g.B.BlockCipher.forward c.args.schedule.now) c.loop-done.done c.min-n.result c.loop-done.value
-      c.take-in-part.new.value c.args.bytes.now _ (search rules) c.loop-done-test.true
-      c.take-in-part.ensures.sum-enciphered c.loop-done.invariant.1,
+      c.take_in_part.new.value c.args.bytes.now _ (search rules) c.loop-done-test.true
+      c.take_in_part.ensures.sum_enciphered c.loop-done.invariant.1,
 )
 
 pub returns : goal.returns

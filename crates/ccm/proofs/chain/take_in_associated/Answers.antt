@@ -16,8 +16,8 @@ returns g c = record {
   taken_in =
       let e = g.B.BlockCipher.forward c.args.schedule.now in
       let aad = c.args.aad.now in
-      c.take-in.ensures.taken_in
-      ∙ taken-first e c.associated-block-n.result c.args.value.now c.take-in-part.new.value c.associated-block-n.new.block
-      (associated aad) aad (something-associated aad (search rules)) c.associated-block-n.ensures.first-block-then-old
-      c.associated-block-n.ensures.the-rest-is-left c.take-in-part.ensures.sum-enciphered;
+      c.take_in.ensures.taken_in
+      ∙ taken-first e c.associated_block-n.result c.args.value.now c.take_in_part.new.value c.associated_block-n.new.block
+      (associated aad) aad (something-associated aad (search rules)) c.associated_block-n.ensures.first_block_then_old
+      c.associated_block-n.ensures.the_rest_is_left c.take_in_part.ensures.sum_enciphered;
 }

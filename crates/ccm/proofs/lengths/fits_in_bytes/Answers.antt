@@ -5,4 +5,4 @@ use Rattle.ccm.proofs.lengths.fits_in_bytes.Goals as goal
 
 pub returns-else-size-eq8 : goal.returns-else-size-eq8
 returns-else-size-eq8 c =
-    record { below-the-power = below_power c.args.text (2 ^ (8 * c.args.size)) (one-le-pow (8 * c.args.size) 2 (omega arith)) }
+    record { below_the_power = below_power c.args.text (2 ^ (8 * c.args.size)) (one-le-pow (8 * c.args.size) 2 (omega arith)) }

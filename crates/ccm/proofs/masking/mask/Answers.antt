@@ -9,13 +9,13 @@ loop-done-preserved g c =
     let w = c.args.schedule.now in
     let nonce = c.args.nonce.now in
     let e = g.B.BlockCipher.forward w in
-    let short = c.requires.nonce-at-most in
+    let short = c.requires.nonce_at_most in
     let long = λ (i : ℕ). g.met.B.BlockCipher.forward_keeps_length w (counter_block nonce i) (length-counter_block nonce i (omega arith)) in (
       search rules,
       (
         search rules,
-        masked-step e nonce long c.loop-done.done c.min-n.result c.loop-done.number c.mask-part.new.part
-            c.loop-done.text _ (search rules) c.loop-done-test.true c.mask-part.ensures.part-masked c.loop-done.invariant.1.1,
+        masked-step e nonce long c.loop-done.done c.min-n.result c.loop-done.number c.mask_part.new.part
+            c.loop-done.text _ (search rules) c.loop-done-test.true c.mask_part.ensures.part_masked c.loop-done.invariant.1.1,
       ),
     )
 
@@ -24,10 +24,10 @@ returns g c =
     let w = c.args.schedule.now in
     let nonce = c.args.nonce.now in
     let e = g.B.BlockCipher.forward w in
-    let short = c.requires.nonce-at-most in
+    let short = c.requires.nonce_at_most in
     let long = λ (i : ℕ). g.met.B.BlockCipher.forward_keeps_length w (counter_block nonce i) (length-counter_block nonce i (omega arith)) in
     record {
-      text-masked =
+      text_masked =
           masked-all e nonce long c.loop-done.done c.loop-done.number c.loop-done.text _ c.loop-done-test.false
           c.loop-done.invariant.1.1
           ∙ masked-is e nonce c.args.text.now;

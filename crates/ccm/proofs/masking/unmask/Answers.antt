@@ -3,8 +3,8 @@ use Rattle.ccm.proofs.masking.unmask.Goals as goal
 
 pub returns : goal.returns
 returns g c = record {
-  masked-then-old =
+  masked_then_old =
       unmasked-is (g.B.BlockCipher.forward c.args.schedule.now) c.args.nonce.now c.args.count c.args.sealed.now
-      c.args.out.now c.copy-over.new.out c.mask-first.new.out c.requires.within-sealed c.requires.within
-      c.copy-over.ensures.bytes-then-old c.mask-first.ensures.first-bytes-masked;
+      c.args.out.now c.copy_over.new.out c.mask_first.new.out c.requires.within_sealed c.requires.within
+      c.copy_over.ensures.bytes_then_old c.mask_first.ensures.first_bytes_masked;
 }

@@ -3,8 +3,8 @@ use Rattle.ccm.proofs.opening.is_checked.Goals as goal
 
 pub returns : goal.returns
 returns g c = record {
-  whether-they-are-the-same =
+  whether_they_are_the_same =
       check-compared (g.B.BlockCipher.forward c.args.schedule.now) c.args.nonce.now c.args.aad.now c.args.check c.args.text
-      c.stands-from.result c.authenticate.new.value c.args.sealed.now c.args.out.now
-      c.authenticate.ensures.the-whole-check c.stands-from.ensures.whether-the-rest-is-the-value;
+      c.stands_from.result c.authenticate.new.value c.args.sealed.now c.args.out.now
+      c.authenticate.ensures.the_whole_check c.stands_from.ensures.whether_the_rest_is_the_value;
 }

@@ -5,9 +5,9 @@ use Rattle.ccm.proofs.sealing.place_check.Goals as goal
 
 pub returns : goal.returns
 returns g c = record {
-  check-value-placed =
-      c.copy-at.ensures.written
+  check_value_placed =
+      c.copy_at.ensures.written
       ∙ ap (λ z. placed c.args.text z c.args.out.now)
       (check-part (g.B.BlockCipher.forward c.args.schedule.now) c.args.nonce.now c.args.aad.now c.args.check c.args.text
-      c.authenticate.new.value c.args.out.now c.authenticate.ensures.the-whole-check);
+      c.authenticate.new.value c.args.out.now c.authenticate.ensures.the_whole_check);
 }

@@ -16,7 +16,7 @@ returns g c =
     let n = c.args.text in
     let out = c.args.out.now in
     let fits : sealable (length nonce) t n (length out) ≡ true =
-    sym c.can-seal.ensures.whether-it-may-be-sealed ∙ c.if-not-can-seal.false in
+    sym c.can_seal.ensures.whether_it_may_be_sealed ∙ c.if-not-can_seal.false in
     let short : length nonce ≤ 15 = search rules in
     let check : t ≤ 16 = search rules in
     let room : n + t ≤ length out = search rules in
@@ -24,9 +24,9 @@ returns g c =
     let long = length-take-le n out (omega arith) in
     let all = length-sealed e keeps t nonce aad (take n out) short check in
     record {
-      sealed-bytes-counted = ap Ok (omega arith) ∙ ap counted (sym is);
-      sealed-bytes-then-old =
-          c.seal-fitting.ensures.checked-then-masked
+      sealed_bytes_counted = ap Ok (omega arith) ∙ ap counted (sym is);
+      sealed_bytes_then_old =
+          c.seal_fitting.ensures.checked_then_masked
           ∙ (sealed-in-place e nonce aad t n out (length-check_value e keeps t nonce aad (take n out) short check) room
           ∙ ap (λ r. output_after r 0 out) (sym is));
     }

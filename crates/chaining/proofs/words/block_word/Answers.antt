@@ -9,4 +9,4 @@ pub returns-else-t-lt16 : goal.returns-else-t-lt16
 unfolding block_word
 returns-else-t-lt16 c =
     let nothing = drop_all (4 * c.args.t) c.args.block.now (omega arith) in
-    record { most-significant-byte-first = ap (λ xs. number (take 4 xs)) (sym nothing) }
+    record { most_significant_byte_first = ap (λ xs. number (take 4 xs)) (sym nothing) }

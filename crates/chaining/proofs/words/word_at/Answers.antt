@@ -6,4 +6,4 @@ use Rattle.chaining.proofs.words.word_at.Goals as goal
 
 pub returns : goal.returns
 unfolding block_word
-returns c = record { most-significant-byte-first = c.from-be-bytes.ensures ∙ sym (four-at _ (4 * c.args.t) (omega arith)) }
+returns c = record { most_significant_byte_first = c.from_be_bytes.ensures ∙ sym (four-at _ (4 * c.args.t) (omega arith)) }

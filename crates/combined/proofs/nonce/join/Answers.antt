@@ -5,7 +5,7 @@ use Rattle.combined.proofs.nonce.join.Goals as goal
 pub returns : goal.returns
 returns c =
     record {
-      front-then-back =
-          joined c.args.front.now c.args.back.now c.args.out.now _ _ (search rules) c.copy-over.ensures.bytes-then-old
-          c.copy-at.ensures.written;
+      front_then_back =
+          joined c.args.front.now c.args.back.now c.args.out.now _ _ (search rules) c.copy_over.ensures.bytes_then_old
+          c.copy_at.ensures.written;
     }

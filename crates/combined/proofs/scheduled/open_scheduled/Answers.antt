@@ -11,11 +11,11 @@ returns g c =
     let out = c.args.out.now in
     let eleven : length nonce ≡ 11 = search rules in
     record {
-      text-counted =
-          c.suite-answer.ensures.same_answer
-          ∙ opened-counted e nonce head eleven c.open.result out c.open.new.out y c.requires.check-size c.requires.short c.requires.room
-          c.open.ensures.text-counted;
-      text-or-zeros-then-old =
-          opened-left e nonce head eleven c.open.result out c.open.new.out y c.requires.check-size c.requires.short c.requires.room
-          c.open.ensures.text-or-zeros-then-old;
+      text_counted =
+          c.suite_answer.ensures.same_answer
+          ∙ opened-counted e nonce head eleven c.open.result out c.open.new.out y c.requires.check_size c.requires.short c.requires.room
+          c.open.ensures.text_counted;
+      text_or_zeros_then_old =
+          opened-left e nonce head eleven c.open.result out c.open.new.out y c.requires.check_size c.requires.short c.requires.room
+          c.open.ensures.text_or_zeros_then_old;
     }

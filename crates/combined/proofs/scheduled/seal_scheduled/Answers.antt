@@ -10,11 +10,11 @@ returns g c =
     let out = c.args.out.now in
     let eleven : length nonce ≡ 11 = search rules in
     record {
-      sealed-bytes-counted =
-          c.suite-answer.ensures.same_answer
+      sealed_bytes_counted =
+          c.suite_answer.ensures.same_answer
           ∙ sealed-counted e nonce head eleven c.seal.result out c.seal.new.out c.args.text c.requires.short c.requires.room
-          c.seal.ensures.sealed-bytes-counted;
-      sealed-bytes-then-old =
+          c.seal.ensures.sealed_bytes_counted;
+      sealed_bytes_then_old =
           sealed-left e nonce head eleven c.seal.result out c.seal.new.out c.args.text c.requires.short c.requires.room
-          c.seal.ensures.sealed-bytes-then-old;
+          c.seal.ensures.sealed_bytes_then_old;
     }

@@ -12,8 +12,8 @@ pub returns : goal.returns
 returns c =
     let sai = c.args.label.sai in
     let sqn = c.args.label.sqn in
-    let first = written-first (big_endian 4 sai) (zeros 12) c.write-u32.new.out c.write-u32.ensures.written (omega (arith, length-big_endian 4 sai)) in
+    let first = written-first (big_endian 4 sai) (zeros 12) c.write_u32.new.out c.write_u32.ensures.written (omega (arith, length-big_endian 4 sai)) in
     let both =
-    written_behind 4 (big_endian 4 sai) (big_endian 8 sqn) (zeros 12) c.write-u32.new.out c.write-u64.new.out
-    c.write-u64.ensures.written first (length-big_endian 4 sai) (omega (arith, length-big_endian 8 sqn)) in
-    record { sai-then-sqn = both ∙ over-all (head_of sai sqn) (zeros 12) (length-head_of sai sqn) }
+    written_behind 4 (big_endian 4 sai) (big_endian 8 sqn) (zeros 12) c.write_u32.new.out c.write_u64.new.out
+    c.write_u64.ensures.written first (length-big_endian 4 sai) (omega (arith, length-big_endian 8 sqn)) in
+    record { sai_then_sqn = both ∙ over-all (head_of sai sqn) (zeros 12) (length-head_of sai sqn) }

@@ -23,16 +23,16 @@ returns-in-err-admit g c =
     let passed_on : c.from-residual-in-err-admit.result ≡ Err fault = search rules in
     let refused =
     making-refused m c.args.under c.args.label c.args.vector.now c.args.data.now out work c.in-ok-sizes.sizes served fault
-    (sym c.admit.ensures.first-that-fits ∙ c.in-err-admit.was) in
+    (sym c.admit.ensures.first_that_fits ∙ c.in-err-admit.was) in
     record {
       length-answered = passed_on ∙ ap answer (sym refused);
       descriptor-then-old = ap (λ r. output_after r out) (sym refused);
-      work-bytes-zero = ap (λ r. work_after r work) (sym refused);
+      work_bytes_zero = ap (λ r. work_after r work) (sym refused);
       opens-to-its-data = subst (λ (r : Result ℕ Fault). IfOk r (λ n. OpensTo m c.args.under c.args.label c.args.data.now (take n out))) (sym passed_on) tt;
     }
 
-pub make-fitting-requires : goal.make-fitting-requires
-make-fitting-requires g c =
+pub make_fitting-requires : goal.make_fitting-requires
+make_fitting-requires g c =
     let m = g.S.Suite.meaning c.args.suite.now in
     let z = c.in-ok-sizes.sizes in
     let served : m.serves c.args.under.triple ≡ Some z = search rules in
@@ -41,7 +41,7 @@ make-fitting-requires g c =
       bounded = g.met.S.Suite.sizes_are_bounded c.args.suite.now c.args.under.triple z served;
       fits =
           makeable c.args.under c.args.label.form z (length c.args.vector.now) (length c.args.data.now) (length c.args.out.now)
-          (length c.args.work.now) (sym c.admit.ensures.first-that-fits ∙ c.in-ok-admit.was);
+          (length c.args.work.now) (sym c.admit.ensures.first_that_fits ∙ c.in-ok-admit.was);
     }
 
 pub returns : goal.returns
@@ -57,18 +57,18 @@ returns g c =
     let z = c.in-ok-sizes.sizes in
     let served : m.serves p.triple ≡ Some z = search rules in
     let bounded = g.met.S.Suite.sizes_are_bounded suite p.triple z served in
-    let admitted = sym c.admit.ensures.first-that-fits ∙ c.in-ok-admit.was in
+    let admitted = sym c.admit.ensures.first_that_fits ∙ c.in-ok-admit.was in
     let fits = makeable p l.form z (length vector) (length xs) (length out) (length work) admitted in
     let done = making-made m p l vector xs out work z served admitted in
     let long : length (made_bytes m p l vector xs out work z) ≤ length out =
     omega (arith, fits.room, made-long m p l z vector xs (length out) (length work) (g.met.S.Suite.sealing_adds_the_check_value suite) served bounded fits out work) in
     record {
-      length-answered = c.make-fitting.ensures.length-answered ∙ ap answer (sym done);
-      descriptor-then-old = c.make-fitting.ensures.descriptor-then-old ∙ ap (λ r. output_after r out) (sym done);
-      work-bytes-zero = c.make-fitting.ensures.work-bytes-zero ∙ ap (λ r. work_after r work) (sym done);
+      length-answered = c.make_fitting.ensures.length-answered ∙ ap answer (sym done);
+      descriptor-then-old = c.make_fitting.ensures.descriptor-then-old ∙ ap (λ r. output_after r out) (sym done);
+      work_bytes_zero = c.make_fitting.ensures.work_bytes_zero ∙ ap (λ r. work_after r work) (sym done);
       opens-to-its-data =
           opens-to m p l z vector xs (length out) (length work) (g.met.S.Suite.opening_undoes_sealing suite)
-          (g.met.S.Suite.sealing_adds_the_check_value suite) served bounded fits c.all-bytes.ensures.all-are-bytes (search rules) (search rules)
-          c.make-fitting.result out c.make-fitting.new.out c.make-fitting.ensures.length-answered
-          c.make-fitting.ensures.descriptor-then-old long;
+          (g.met.S.Suite.sealing_adds_the_check_value suite) served bounded fits c.all_bytes.ensures.all_are_bytes (search rules) (search rules)
+          c.make_fitting.result out c.make_fitting.new.out c.make_fitting.ensures.length-answered
+          c.make_fitting.ensures.descriptor-then-old long;
     }

@@ -9,10 +9,10 @@ returns-in-err-seal g c =
     let laid =
     laid (g.S.Suite.meaning c.args.suite.now) c.args.under c.args.label c.args.sizes c.args.vector.now c.args.data.now
     c.args.out.now c.args.work.now (g.met.S.Suite.sealing_adds_the_check_value c.args.suite.now) c.requires.served c.requires.bounded
-    c.requires.fits c.lead.result c.text-length-text.result c.head-of-head.result c.write-front.new.out c.write-text.new.text
-    c.lead.ensures c.text-length-text.ensures.as-padded c.head-of-head.ensures.sai-then-sqn c.write-front.ensures.front-then-old
-    c.write-text.ensures.text-of-the-data in
-    let fine = c.seal.ensures.sealed-bytes-counted ∙ ap counted laid.sealed in
+    c.requires.fits c.lead.result c.text_length-text.result c.head_of-head.result c.write_front.new.out c.write_text.new.text
+    c.lead.ensures c.text_length-text.ensures.as_padded c.head_of-head.ensures.sai_then_sqn c.write_front.ensures.front_then_old
+    c.write_text.ensures.text_of_the_data in
+    let fine = c.seal.ensures.sealed_bytes_counted ∙ ap counted laid.sealed in
     let failed = c.in-err-seal.was in
     let no' : ◌≡◌ {A = ℕ} 0 1 = cc in
     absurd (omega arith)
@@ -22,17 +22,17 @@ returns g c =
     let laid =
     laid (g.S.Suite.meaning c.args.suite.now) c.args.under c.args.label c.args.sizes c.args.vector.now c.args.data.now
     c.args.out.now c.args.work.now (g.met.S.Suite.sealing_adds_the_check_value c.args.suite.now) c.requires.served c.requires.bounded
-    c.requires.fits c.lead.result c.text-length-text.result c.head-of-head.result c.write-front.new.out c.write-text.new.text
-    c.lead.ensures c.text-length-text.ensures.as-padded c.head-of-head.ensures.sai-then-sqn c.write-front.ensures.front-then-old
-    c.write-text.ensures.text-of-the-data in
-    let e = c.text-length-text.result in
+    c.requires.fits c.lead.result c.text_length-text.result c.head_of-head.result c.write_front.new.out c.write_text.new.text
+    c.lead.ensures c.text_length-text.ensures.as_padded c.head_of-head.ensures.sai_then_sqn c.write_front.ensures.front_then_old
+    c.write_text.ensures.text_of_the_data in
+    let e = c.text_length-text.result in
     let start = c.lead.result + 12 + c.args.sizes.vector in
     let end = start + e + c.args.sizes.check in
-    let out₂ = put_mid start (start + e - start) c.write-front.new.out c.write-text.new.text in
+    let out₂ = put_mid start (start + e - start) c.write_front.new.out c.write_text.new.text in
     let part = take (end - start) (drop start out₂) in
-    let sealed = c.seal.ensures.sealed-bytes-then-old ∙ (ap (λ r. output_after r 0 part) laid.sealed ∙ laid.in_place) in
+    let sealed = c.seal.ensures.sealed_bytes_then_old ∙ (ap (λ r. output_after r 0 part) laid.sealed ∙ laid.in_place) in
     record {
       length-answered = ap Ok laid.length-answered;
       descriptor-then-old = ap (put_mid start (end - start) out₂) sealed ∙ laid.descriptor-then-old;
-      work-bytes-zero = c.seal.ensures.work-bytes-zero ∙ ap (λ r. work_after r c.args.work.now) laid.sealed;
+      work_bytes_zero = c.seal.ensures.work_bytes_zero ∙ ap (λ r. work_after r c.args.work.now) laid.sealed;
     }

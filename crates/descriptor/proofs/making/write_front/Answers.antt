@@ -20,13 +20,13 @@ returns c =
     let sai-long : length (start ++ sai) ≡ at + 4 = omega (arith, length-append start sai, length-big_endian 4 c.args.label.sai) in
     let sqn-long : length ((start ++ sai) ++ sqn) ≡ at + 12 = omega (arith, length-append (start ++ sai) sqn, length-big_endian 8 c.args.label.sqn) in
     let with-sai =
-    written_behind at start sai out c.write-lead.new.out c.write-u32.new.out c.write-u32.ensures.written
-    c.write-lead.ensures.lead-then-old start-long (omega (arith, length-big_endian 4 c.args.label.sai)) in
+    written_behind at start sai out c.write_lead.new.out c.write_u32.new.out c.write_u32.ensures.written
+    c.write_lead.ensures.lead_then_old start-long (omega (arith, length-big_endian 4 c.args.label.sai)) in
     let with-sqn =
-    written_behind (at + 4) (start ++ sai) sqn out c.write-u32.new.out c.write-u64.new.out c.write-u64.ensures.written
+    written_behind (at + 4) (start ++ sai) sqn out c.write_u32.new.out c.write_u64.new.out c.write_u64.ensures.written
     with-sai sai-long (omega (arith, length-big_endian 8 c.args.label.sqn)) in
     record {
-      front-then-old =
-          written_behind (at + 12) ((start ++ sai) ++ sqn) c.args.vector.now out c.write-u64.new.out c.copy-at.new.out
-          c.copy-at.ensures.written with-sqn sqn-long (omega arith);
+      front_then_old =
+          written_behind (at + 12) ((start ++ sai) ++ sqn) c.args.vector.now out c.write_u64.new.out c.copy_at.new.out
+          c.copy_at.ensures.written with-sqn sqn-long (omega arith);
     }

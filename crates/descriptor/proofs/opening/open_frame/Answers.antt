@@ -18,22 +18,22 @@ returns g c =
     let told : m.serves p.triple ≡ Some z = search rules in
     let within : f.end ≤ length list = search rules in
     let ends : ltb (length list) f.end ≡ false = search rules in
-    let cut-so : parted f z.vector z.check z.unit z.encrypts ≡ Ok at = sym c.parts.ensures.as-parted ∙ c.in-ok-parts.was in
+    let cut-so : parted f z.vector z.check z.unit z.encrypts ≡ Ok at = sym c.parts.ensures.as_parted ∙ c.in-ok-parts.was in
     let row : InARow f z.vector z.check at = search rules in
     let verdict = frame-parted m p list buffer work z f told ends (Ok at) (sym cut-so) in
     let bytes : OctetsOf p list = record {
-      key = c.bytes-are-octets-2.ensures.every-value-is-a-byte;
-      salt = c.bytes-are-octets-3.ensures.every-value-is-a-byte;
-      integrity = c.bytes-are-octets-4.ensures.every-value-is-a-byte;
-      listed = c.bytes-are-octets.ensures.every-value-is-a-byte;
+      key = c.bytes_are_octets-2.ensures.every_value_is_a_byte;
+      salt = c.bytes_are_octets-3.ensures.every_value_is_a_byte;
+      integrity = c.bytes_are_octets-4.ensures.every_value_is_a_byte;
+      listed = c.bytes_are_octets.ensures.every_value_is_a_byte;
     } in
     record {
-      data-length-answered = c.open-parts.ensures.data-length-answered ∙ ap answer verdict;
-      data-then-zeros-then-old = c.open-parts.ensures.data-then-zeros-then-old ∙ ap (λ v. data_after v buffer) verdict;
-      work-bytes-zero = c.open-parts.ensures.work-bytes-zero ∙ ap (λ v. work_after v work) verdict;
+      data_length_answered = c.open_parts.ensures.data_length_answered ∙ ap answer verdict;
+      data_then_zeros_then_old = c.open_parts.ensures.data_then_zeros_then_old ∙ ap (λ v. data_after v buffer) verdict;
+      work_bytes_zero = c.open_parts.ensures.work_bytes_zero ∙ ap (λ v. work_after v work) verdict;
       what-opens-was-sealed =
           frame-sealed m p list buffer work z f told (g.met.S.Suite.what_opens_was_sealed c.args.suite.now)
           (g.met.S.Suite.opening_undoes_sealing c.args.suite.now) (g.met.S.Suite.sealing_adds_the_check_value c.args.suite.now) bytes at
-          c.open-parts.result c.open-parts.new.data cut-so row within c.open-parts.ensures.data-length-answered
-          c.open-parts.ensures.data-then-zeros-then-old;
+          c.open_parts.result c.open_parts.new.data cut-so row within c.open_parts.ensures.data_length_answered
+          c.open_parts.ensures.data_then_zeros_then_old;
     }

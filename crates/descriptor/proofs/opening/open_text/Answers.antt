@@ -17,15 +17,15 @@ returns-in-err-text g c =
     let e = length y - z.check in
     let o = suite.opening m c.args.triple (given c.args.inputs) y c.args.data.now c.args.work.now in
     let f = c.in-err-text.field-0.0 in
-    let failed : counted o ≡ Err f = sym c.open.ensures.text-counted ∙ c.in-err-text.was in
+    let failed : counted o ≡ Err f = sym c.open.ensures.text_counted ∙ c.in-err-text.was in
     let up : c.from-residual.result ≡ Err (Suite f) = search rules in
     record {
-      data-length-answered = up ∙ failed-answer z e o f failed;
-      data-then-zeros-then-old =
-          c.open.ensures.text-or-zeros-then-old
+      data_length_answered = up ∙ failed-answer z e o f failed;
+      data_then_zeros_then_old =
+          c.open.ensures.text_or_zeros_then_old
           ∙ (ap (λ s. suite.output_after o (length y - check_size s) c.args.data.now) c.requires.served
           ∙ failed-data z e o f c.args.data.now failed);
-      work-bytes-zero = c.open.ensures.work-bytes-zero ∙ failed-work z e o f c.args.work.now failed;
+      work_bytes_zero = c.open.ensures.work_bytes_zero ∙ failed-work z e o f c.args.work.now failed;
     }
 
 pub unpad-requires : goal.unpad-requires
@@ -36,23 +36,23 @@ unpad-requires g c =
     let o = suite.opening m c.args.triple (given c.args.inputs) y buffer c.args.work.now in
     let bytes : Bytes (given c.args.inputs) c.args.sealed.now = record {
       key = c.requires.key-bytes;
-      salt = c.requires.salt-bytes;
-      integrity = c.requires.integrity-bytes;
+      salt = c.requires.salt_bytes;
+      integrity = c.requires.integrity_bytes;
       head = c.requires.head_bytes;
       vector = c.requires.vector-bytes;
-      sealed = c.requires.sealed-bytes;
+      sealed = c.requires.sealed_bytes;
     } in
     let came = given-text m c.args.triple c.args.sizes (given c.args.inputs) y buffer c.args.work.now c.requires.served
     (g.met.S.Suite.what_opens_was_sealed c.args.suite.now) (g.met.S.Suite.sealing_adds_the_check_value c.args.suite.now) bytes
-    c.in-ok-text.text (sym c.open.ensures.text-counted ∙ c.in-ok-text.was) in
+    c.in-ok-text.text (sym c.open.ensures.text_counted ∙ c.in-ok-text.was) in
     let stands : c.open.new.out ≡ over came.text buffer =
-    c.open.ensures.text-or-zeros-then-old
+    c.open.ensures.text_or_zeros_then_old
     ∙ ap (λ r. suite.output_after r (length y - check_size (m.serves c.args.triple)) buffer) came.is in
     let long : length c.open.new.out ≡ length buffer = ap length stands ∙ length_over came.text buffer in
     let n = came.counted-so in
     let whole = came.whole in
     let room = came.fits.room in
-    record { text-stands-there = omega arith }
+    record { text_stands_there = omega arith }
 
 pub returns : goal.returns
 returns g c =
@@ -66,18 +66,18 @@ returns g c =
     let o = suite.opening m c.args.triple (given c.args.inputs) y buffer work in
     let bytes : Bytes (given c.args.inputs) c.args.sealed.now = record {
       key = c.requires.key-bytes;
-      salt = c.requires.salt-bytes;
-      integrity = c.requires.integrity-bytes;
+      salt = c.requires.salt_bytes;
+      integrity = c.requires.integrity_bytes;
       head = c.requires.head_bytes;
       vector = c.requires.vector-bytes;
-      sealed = c.requires.sealed-bytes;
+      sealed = c.requires.sealed_bytes;
     } in
     let came = given-text m c.args.triple z (given c.args.inputs) y buffer work c.requires.served
     (g.met.S.Suite.what_opens_was_sealed c.args.suite.now) (g.met.S.Suite.sealing_adds_the_check_value c.args.suite.now) bytes
-    n (sym c.open.ensures.text-counted ∙ c.in-ok-text.was) in
+    n (sym c.open.ensures.text_counted ∙ c.in-ok-text.was) in
     let text = came.text in
     let stands : c.open.new.out ≡ over text buffer =
-    c.open.ensures.text-or-zeros-then-old
+    c.open.ensures.text_or_zeros_then_old
     ∙ ap (λ r. suite.output_after r (length y - check_size (m.serves c.args.triple)) buffer) came.is in
     let long = came.counted-so in
     let whole = came.whole in
@@ -88,14 +88,14 @@ returns g c =
     let verdict : unpadding (data_of z (take n c.open.new.out)) n ≡ concluded z e o =
     ap (λ w. unpadding (data_of z w) n) front ∙ (ap (unpadding (data_of z text)) n-e ∙ ap (concluded z e) (sym came.is)) in
     record {
-      data-length-answered = c.unpad.ensures.data-length-answered ∙ ap answer verdict;
-      data-then-zeros-then-old =
-          c.unpad.ensures.data-then-zeros-then-old
+      data_length_answered = c.unpad.ensures.data_length_answered ∙ ap answer verdict;
+      data_then_zeros_then_old =
+          c.unpad.ensures.data_then_zeros_then_old
           ∙ (ap (λ v. data_after v c.open.new.out) (verdict ∙ ap (concluded z e) came.is)
           ∙ (ap (data_after (unpadding (data_of z text) e)) stands
           ∙ (written-again (data_of z text) e text buffer (omega arith) ∙ ap (λ r. data_after (concluded z e r) buffer) (sym came.is))));
-      work-bytes-zero =
-          c.open.ensures.work-bytes-zero
+      work_bytes_zero =
+          c.open.ensures.work_bytes_zero
           ∙ (ap (λ r. suite.work_after r work) came.is
           ∙ (sym (work-wiped (data_of z text) e work) ∙ ap (λ r. work_after (concluded z e r) work) (sym came.is)));
     }

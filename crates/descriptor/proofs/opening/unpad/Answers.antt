@@ -8,11 +8,11 @@ use Rattle.descriptor.specs.Opening.{answer, data_after, unpadding}
 use Rattle.descriptor.proofs.OpeningSteps.{text_in-clear, text-padded, text-kept, front-and-zeros}
 use Rattle.descriptor.proofs.opening.unpad.Goals as goal
 
-pub slice-bounds-zero-first-end : goal.slice-bounds-zero-first-end
-slice-bounds-zero-first-end c =
+pub slice-bounds-zero_first-end : goal.slice-bounds-zero_first-end
+slice-bounds-zero_first-end c =
     let text = take (c.args.text - 0) c.args.data.now in
     let long : length text ≡ c.args.text = search rules in
-    let within : c.in-Some.n + 2 ≤ length text = data_length-within text c.in-Some.n (sym c.data-length.ensures.before-the-trailer ∙ c.in-Some.is) in
+    let within : c.in-Some.n + 2 ≤ length text = data_length-within text c.in-Some.n (sym c.data_length.ensures.before_the_trailer ∙ c.in-Some.is) in
     search rules
 
 pub returns-then-not-sizes : goal.returns-then-not-sizes
@@ -21,8 +21,8 @@ returns-then-not-sizes c =
     let buffer = c.args.data.now in
     let is = text_in-clear c.args.sizes (take t buffer) c.if-not-sizes.true in
     record {
-      data-length-answered = ap Ok (sym (length-take-le t buffer c.requires.text-stands-there)) ∙ ap (λ o. answer (unpadding o t)) (sym is);
-      data-then-zeros-then-old = sym (text-kept t buffer c.requires.text-stands-there) ∙ ap (λ o. data_after (unpadding o t) buffer) (sym is);
+      data_length_answered = ap Ok (sym (length-take-le t buffer c.requires.text_stands_there)) ∙ ap (λ o. answer (unpadding o t)) (sym is);
+      data_then_zeros_then_old = sym (text-kept t buffer c.requires.text_stands_there) ∙ ap (λ o. data_after (unpadding o t) buffer) (sym is);
     }
 
 pub returns-in-Some : goal.returns-in-Some
@@ -31,16 +31,16 @@ returns-in-Some c =
     let n = c.in-Some.n in
     let buffer = c.args.data.now in
     let at : take (t - 0) buffer ≡ take t buffer = ap (λ k. take k buffer) (sub-zero t) in
-    let told : data_length (take t buffer) ≡ Some n = ap data_length (sym at) ∙ (sym c.data-length.ensures.before-the-trailer ∙ c.in-Some.is) in
-    let long = length-take-le t buffer c.requires.text-stands-there in
+    let told : data_length (take t buffer) ≡ Some n = ap data_length (sym at) ∙ (sym c.data_length.ensures.before_the_trailer ∙ c.in-Some.is) in
+    let long = length-take-le t buffer c.requires.text_stands_there in
     let within : n + 2 ≤ length (take t buffer) = data_length-within (take t buffer) n told in
     let front : take n (take t buffer) ≡ take n buffer = take-take n t buffer (omega arith) in
     let front_long : length (take n (take t buffer)) ≡ n = length-take-le n (take t buffer) (omega arith) in
     let is = text-padded c.args.sizes (take t buffer) (Some n) c.if-not-sizes.false (sym told) in
     record {
-      data-length-answered = ap Ok (sym front_long) ∙ ap (λ o. answer (unpadding o t)) (sym is);
-      data-then-zeros-then-old =
-          front-and-zeros n t c.zero-first.new.out buffer (omega arith) c.requires.text-stands-there c.zero-first.ensures.zeros-then-old
+      data_length_answered = ap Ok (sym front_long) ∙ ap (λ o. answer (unpadding o t)) (sym is);
+      data_then_zeros_then_old =
+          front-and-zeros n t c.zero_first.new.out buffer (omega arith) c.requires.text_stands_there c.zero_first.ensures.zeros_then_old
           ∙ (ap (λ k. over (take n buffer ++ zeros (t - k)) buffer) (sym front_long)
           ∙ (ap (λ w. over (w ++ zeros (t - length (take n (take t buffer)))) buffer) (sym front)
           ∙ ap (λ o. data_after (unpadding o t) buffer) (sym is)));

@@ -4,4 +4,4 @@ use Rattle.fips197.proofs.Products.{product-3}
 use Rattle.fips197.proofs.field.times_03.Goals as goal
 
 pub returns : goal.returns
-returns c = record { product = ap (bit_xor c.args.b) c.xtime.ensures.times-x ∙ product-3 c.args.b }
+returns c = record { product = ap (bit_xor c.args.b) c.xtime.ensures.times_x ∙ product-3 c.args.b }

@@ -10,4 +10,4 @@ returns c =
     let b = c.args.b in
     let byte : b < 256 = search rules in
     let top : b / 128 ≡ b / 128 % 2 = omega arith in
-    record { times-x = ap (λ (t : ℕ). bit_xor (b * 2 % 256) (t * 0x1b)) top }
+    record { times_x = ap (λ (t : ℕ). bit_xor (b * 2 % 256) (t * 0x1b)) top }

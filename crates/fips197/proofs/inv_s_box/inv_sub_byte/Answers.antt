@@ -8,5 +8,5 @@ pub returns : goal.returns
 unfolding inv_s_box
 returns c =
     let byte : c.args.x < 256 = search rules in
-    let entry = c.inv-s-box-entry.ensures.of-the-table in
-    record { of-the-table = entry; undoes-the-box = ap s_box entry ∙ s_box-inv_s_box c.args.x byte }
+    let entry = c.inv_s_box_entry.ensures.of_the_table in
+    record { of_the_table = entry; undoes_the_box = ap s_box entry ∙ s_box-inv_s_box c.args.x byte }

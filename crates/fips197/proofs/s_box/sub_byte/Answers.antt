@@ -8,5 +8,5 @@ pub returns : goal.returns
 unfolding s_box
 returns c =
     let byte : c.args.x < 256 = search rules in
-    let entry = c.s-box-entry.ensures.of-the-table in
-    record { of-the-table = entry; inverse-then-affine = entry ∙ s_box-rule c.args.x byte; times-inverse-is-one = inverse-rule c.args.x byte }
+    let entry = c.s_box_entry.ensures.of_the_table in
+    record { of_the_table = entry; inverse_then_affine = entry ∙ s_box-rule c.args.x byte; times_inverse_is_one = inverse-rule c.args.x byte }

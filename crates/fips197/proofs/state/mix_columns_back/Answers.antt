@@ -7,7 +7,7 @@ use Rattle.fips197.proofs.state.mix_columns_back.Goals as goal
 pub returns : goal.returns
 returns c =
     record {
-      columns-mixed-back =
-          c.mix-columns.ensures.columns-mixed
-          ∙ (ap mix_columns c.prepare-columns.ensures.columns-prepared ∙ mix_columns-prepared c.args.s.now);
+      columns_mixed_back =
+          c.mix_columns.ensures.columns_mixed
+          ∙ (ap mix_columns c.prepare_columns.ensures.columns_prepared ∙ mix_columns-prepared c.args.s.now);
     }

@@ -9,6 +9,6 @@ pub returns : goal.returns
 returns c =
     let s = c.args.s.now in
     record {
-      columns-prepared =
-          written_out (λ r k. prepared (at s r k) (at s ((r + 2) % 4) k)) c.prepared.ensures.plus-04-times-the-sum c.prepared-2.ensures.plus-04-times-the-sum c.prepared-3.ensures.plus-04-times-the-sum c.prepared-4.ensures.plus-04-times-the-sum c.prepared-5.ensures.plus-04-times-the-sum c.prepared-6.ensures.plus-04-times-the-sum c.prepared-7.ensures.plus-04-times-the-sum c.prepared-8.ensures.plus-04-times-the-sum c.prepared-9.ensures.plus-04-times-the-sum c.prepared-10.ensures.plus-04-times-the-sum c.prepared-11.ensures.plus-04-times-the-sum c.prepared-12.ensures.plus-04-times-the-sum c.prepared-13.ensures.plus-04-times-the-sum c.prepared-14.ensures.plus-04-times-the-sum c.prepared-15.ensures.plus-04-times-the-sum c.prepared-16.ensures.plus-04-times-the-sum;
+      columns_prepared =
+          written_out (λ r k. prepared (at s r k) (at s ((r + 2) % 4) k)) c.prepared.ensures.plus_04_times_the_sum c.prepared-2.ensures.plus_04_times_the_sum c.prepared-3.ensures.plus_04_times_the_sum c.prepared-4.ensures.plus_04_times_the_sum c.prepared-5.ensures.plus_04_times_the_sum c.prepared-6.ensures.plus_04_times_the_sum c.prepared-7.ensures.plus_04_times_the_sum c.prepared-8.ensures.plus_04_times_the_sum c.prepared-9.ensures.plus_04_times_the_sum c.prepared-10.ensures.plus_04_times_the_sum c.prepared-11.ensures.plus_04_times_the_sum c.prepared-12.ensures.plus_04_times_the_sum c.prepared-13.ensures.plus_04_times_the_sum c.prepared-14.ensures.plus_04_times_the_sum c.prepared-15.ensures.plus_04_times_the_sum c.prepared-16.ensures.plus_04_times_the_sum;
     }

@@ -4,4 +4,4 @@ use Rattle.fips197.proofs.state.shift_and_sub_back.Goals as goal
 
 pub returns : goal.returns
 unfolding inv_sub_bytes inv_shift_rows
-returns c = record { shifted-then-substituted-back = c.sub-shifted-back.ensures.each-byte }
+returns c = record { shifted_then_substituted_back = c.sub_shifted_back.ensures.each_byte }

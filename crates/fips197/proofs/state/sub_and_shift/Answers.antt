@@ -7,4 +7,4 @@ pub returns : goal.returns
 returns c =
     let s = c.args.s.now in
     let sized : length s ≡ 16 = search rules in
-    record { substituted-then-shifted = c.sub-shifted.ensures.each-byte ∙ shift_rows-sub_bytes s sized }
+    record { substituted_then_shifted = c.sub_shifted.ensures.each_byte ∙ shift_rows-sub_bytes s sized }

@@ -3,4 +3,4 @@ use Rattle.octets.proofs.Octets.{wiped-all}
 use Rattle.hmac.proofs.hmac.wipe.Goals as goal
 
 pub returns : goal.returns
-returns c = record { zeroed = c.zero-first.ensures.zeros-then-old ∙ wiped-all _ c.args.room.now (omega arith) }
+returns c = record { zeroed = c.zero_first.ensures.zeros_then_old ∙ wiped-all _ c.args.room.now (omega arith) }

@@ -9,5 +9,5 @@ loop-i-preserved c = search (rules, ramp-compared)
 pub returns : goal.returns
 returns c =
     record {
-      whether-the-trailer = trailer-compared c.args.rest.now c.loop-i.i _ c.loop-i.difference (omega arith) (omega arith) c.loop-i.invariant;
+      whether_the_trailer = trailer-compared c.args.rest.now c.loop-i.i _ c.loop-i.difference (omega arith) (omega arith) c.loop-i.invariant;
     }

@@ -7,10 +7,10 @@ pub returns-then-left-lt2 : goal.returns-then-left-lt2
 returns-then-left-lt2 c =
     let below = mod-lt c.args.n {m = c.args.unit} c.requires.a_unit in
     let found = pad_to-from-rest c.args.unit c.args.n c.requires.a_unit _ 2 (omega arith) (omega arith) in
-    record { by-the-formula = found.0; least-that-fills-units = found.1; worked-values = refl }
+    record { by_the_formula = found.0; least_that_fills_units = found.1; worked_values = refl }
 
 pub returns-else-left-lt2 : goal.returns-else-left-lt2
 returns-else-left-lt2 c =
     let below = mod-lt c.args.n {m = c.args.unit} c.requires.a_unit in
     let found = pad_to-from-rest c.args.unit c.args.n c.requires.a_unit _ 1 (omega arith) (omega arith) in
-    record { by-the-formula = found.0; least-that-fills-units = found.1; worked-values = refl }
+    record { by_the_formula = found.0; least_that_fills_units = found.1; worked_values = refl }

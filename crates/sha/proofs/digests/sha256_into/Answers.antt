@@ -7,6 +7,6 @@ use Rattle.sha.proofs.digests.sha256_into.Goals as goal
 pub returns : goal.returns
 returns c =
     record {
-      the-digest =
-          whole-digest sha256 _ _ c.args.message.now c.args.out.now c.new-hash.ensures.nothing-absorbed c.absorb.ensures.absorbed c.finish.ensures.digest-over-the-start (length-sha256 c.args.message.now ∙ sym (search rules));
+      the_digest =
+          whole-digest sha256 _ _ c.args.message.now c.args.out.now c.new-hash.ensures.nothing_absorbed c.absorb.ensures.absorbed c.finish.ensures.digest_over_the_start (length-sha256 c.args.message.now ∙ sym (search rules));
     }

@@ -13,4 +13,4 @@ pub loop-t-preserved : goal.loop-t-preserved
 loop-t-preserved c =
     let falls : c.args.quarter ≡ (20 * c.args.quarter + c.loop-t.t) / 20 = omega arith in
     let at = λ (q : ℕ). round q (get_or c.args.w.now (20 * c.args.quarter + c.loop-t.t) 0) c.loop-t.v in
-    turns_more _ _ _ c.loop-t.invariant (c.round.ensures.one-round ∙ ap at falls)
+    turns_more _ _ _ c.loop-t.invariant (c.round.ensures.one_round ∙ ap at falls)

@@ -10,7 +10,7 @@ unfolding turns
 returns c =
     let step = round_at c.args.w.now in
     let v = c.args.v.now in
-    let first = c.quarter-rounds.ensures.twenty-rounds ∙ turns-after step 0 20 v v refl in
-    let second = c.quarter-rounds-2.ensures.twenty-rounds ∙ turns-after step 20 20 v _ first in
-    let third = c.quarter-rounds-3.ensures.twenty-rounds ∙ turns-after step 40 20 v _ second in
-    record { all-rounds = c.quarter-rounds-4.ensures.twenty-rounds ∙ turns-after step 60 20 v _ third }
+    let first = c.quarter_rounds.ensures.twenty_rounds ∙ turns-after step 0 20 v v refl in
+    let second = c.quarter_rounds-2.ensures.twenty_rounds ∙ turns-after step 20 20 v _ first in
+    let third = c.quarter_rounds-3.ensures.twenty_rounds ∙ turns-after step 40 20 v _ second in
+    record { all_rounds = c.quarter_rounds-4.ensures.twenty_rounds ∙ turns-after step 60 20 v _ third }

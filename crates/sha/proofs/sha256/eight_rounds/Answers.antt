@@ -7,5 +7,5 @@ pub returns : goal.returns
 returns c =
     record {
       eight-turns =
-          eight-turns (round_at c.args.w.now) c.args.first c.args.v.now c.round-at.ensures.one-round c.round-at-2.ensures.one-round c.round-at-3.ensures.one-round c.round-at-4.ensures.one-round c.round-at-5.ensures.one-round c.round-at-6.ensures.one-round c.round-at-7.ensures.one-round c.round-at-8.ensures.one-round;
+          eight-turns (round_at c.args.w.now) c.args.first c.args.v.now c.round_at.ensures.one_round c.round_at-2.ensures.one_round c.round_at-3.ensures.one_round c.round_at-4.ensures.one_round c.round_at-5.ensures.one_round c.round_at-6.ensures.one_round c.round_at-7.ensures.one_round c.round_at-8.ensures.one_round;
     }

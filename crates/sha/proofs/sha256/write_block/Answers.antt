@@ -22,7 +22,7 @@ loop-t-preserved c =
     let w = c.loop-t.w in
     let t = c.loop-t.t in
     let reads = first-words block (take t w) t below ∙ sym (first-words block w t below) in
-    let word = c.block-word.ensures.most-significant-byte-first ∙ sym (first-words block w t below) in
+    let word = c.block_word.ensures.most_significant_byte_first ∙ sym (first-words block w t below) in
     (simp length-set c.loop-t.invariant.0, built-more _ _ _ reads (omega arith) c.loop-t.invariant.1 word)
 
 pub returns : goal.returns

@@ -14,12 +14,12 @@ returns g c =
     let out = c.args.out.now in
     let mac = hmac g.H.Hash.digest g.H.Hash.block key in
     let value =
-    c.absorb-message.ensures.absorbed []
+    c.absorb_message.ensures.absorbed []
     ∙ (c.new-mac.ensures.keyed (head ++ (vector ++ (text ++ []))) ∙ ap (λ x. mac (head ++ (vector ++ x))) (append-nil text)) in
     let n = c.min-n.result in
     let v = mac (head ++ (vector ++ text)) in
     record {
-      check-value-then-old =
-          ap (λ x. x ++ drop (n - 0) out) (c.finish.ensures.check-value-over-the-start ∙ ap (λ x. over x (take (n - 0) out)) value)
+      check_value_then_old =
+          ap (λ x. x ++ drop (n - 0) out) (c.finish.ensures.check_value_over_the_start ∙ ap (λ x. over x (take (n - 0) out)) value)
           ∙ (ap (λ m. over v (take m out) ++ drop m out) (sub-zero n) ∙ over-front c.args.self.now.sizes.check n v out c.min-n.ensures);
     }

@@ -7,4 +7,4 @@ use Rattle.codes.proofs.sort.Sort.name.Goals as goal
 pub returns-in-VendorSpecific : goal.returns-in-VendorSpecific
 returns-in-VendorSpecific c =
     let sort : c.args.self ≡ VendorSpecific = search rules in
-    record { its-name = ap sort_name (sym sort) }
+    record { its_name = ap sort_name (sym sort) }

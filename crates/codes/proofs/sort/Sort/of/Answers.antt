@@ -4,11 +4,11 @@ use Rattle.codes.proofs.sort.Sort.of.Goals as goal
 
 pub returns : goal.returns
 returns c =
-    let e = c.by-code.ensures.as-defined in
+    let e = c.by_code.ensures.as_defined in
     record {
-      as-defined = e;
-      named-when-in-the-table = exactly c.args.code Named _ e;
-      vendor-specific-in-its-range = exactly c.args.code VendorSpecific _ e;
-      restricted-in-its-range = exactly c.args.code Restricted _ e;
-      reserved-otherwise = exactly c.args.code Reserved _ e;
+      as_defined = e;
+      named_when_in_the_table = exactly c.args.code Named _ e;
+      vendor_specific_in_its_range = exactly c.args.code VendorSpecific _ e;
+      restricted_in_its_range = exactly c.args.code Restricted _ e;
+      reserved_otherwise = exactly c.args.code Reserved _ e;
     }

@@ -7,19 +7,19 @@ use Rattle.combined.specs.CcmSuite.{ccm_suite}
 use Rattle.combined.specs.CcmLaws.{terms, keyed}
 use Rattle.combined.proofs.ccm_suite.CcmSuite.open.Goals as goal
 
-pub open-keyed-requires : goal.open-keyed-requires
-open-keyed-requires g c =
+pub open_keyed-requires : goal.open_keyed-requires
+open_keyed-requires g c =
     let own = c.args.self.now in
     let t = c.args.triple in
     let z = c.in-ok-sizes.sizes in
-    let o = openable t z (given c.args.inputs) _ _ _ (sym c.fit-opening.ensures.whether-it-may-be-opened ∙ c.if-not-fit-opening.false) in
+    let o = openable t z (given c.args.inputs) _ _ _ (sym c.fit_opening.ensures.whether_it_may_be_opened ∙ c.if-not-fit_opening.false) in
     let p = terms g.B.BlockCipher.scheduled own.encryption own.integrity t z (search rules) in
     let k = keyed g.B.BlockCipher.scheduled t z (given c.args.inputs) p o.lengths in
     record {
       taken = k.taken;
-      salt-size = k.salt;
-      vector-size = k.vector;
-      check-size = omega (arith, o.check, k.check);
+      salt_size = k.salt;
+      vector_size = k.vector;
+      check_size = omega (arith, o.check, k.check);
       short = omega (arith, o.short, k.check);
       room = omega (arith, o.room, k.check);
       work-bytes = search rules;
@@ -35,19 +35,19 @@ returns g c =
     let y = c.args.sealed.now in
     let out = c.args.out.now in
     let work = c.args.work.now in
-    let fits = sym c.fit-opening.ensures.whether-it-may-be-opened ∙ c.if-not-fit-opening.false in
+    let fits = sym c.fit_opening.ensures.whether_it_may_be_opened ∙ c.if-not-fit_opening.false in
     let o = openable t z given (length y) (length out) (length work) fits in
     let served : suite.serves t ≡ Some z = search rules in
     let p = terms g.B.BlockCipher.scheduled own.encryption own.integrity t z served in
     let check : check_size (suite.serves t) ≡ 16 = ap check_size served ∙ (keyed g.B.BlockCipher.scheduled t z given p o.lengths).check in
     let opened = opening-served suite t z given served y out work fits in
     record {
-      text-counted = c.open-keyed.ensures.text-counted ∙ ap counted (sym opened);
-      text-or-zeros-then-old =
-          c.open-keyed.ensures.text-or-zeros-then-old
+      text_counted = c.open_keyed.ensures.text_counted ∙ ap counted (sym opened);
+      text_or_zeros_then_old =
+          c.open_keyed.ensures.text_or_zeros_then_old
           ∙ (ap (λ r. output_after r (length y - 16) out) (sym opened)
           ∙ ap (λ k. output_after (opening suite t given y out work) (length y - k) out) (sym check));
-      work-bytes-zero =
-          guarded _ c.open-keyed.new.work work c.drop-guard.ensures.work-bytes-zero (search rules) o.work-bytes
+      work_bytes_zero =
+          guarded _ c.open_keyed.new.work work c.drop-guard.ensures.work_bytes_zero (search rules) o.work-bytes
           ∙ (sym (opening-work (suite.opened t given y) work) ∙ ap (λ r. work_after r work) (sym opened));
     }

@@ -10,8 +10,8 @@ use Rattle.pairing.specs.PairingLaws.{sizes-are-bounded, sides, check-length, wh
 use Rattle.pairing.proofs.PairingSteps.{ciphers-through, compared, front-of-over, opened-in-place}
 use Rattle.pairing.proofs.pairing.Pairing.open_fitting.Goals as goal
 
-pub slice-bounds-same-octets-end-2 : goal.slice-bounds-same-octets-end-2
-slice-bounds-same-octets-end-2 g c =
+pub slice-bounds-same_octets-end-2 : goal.slice-bounds-same_octets-end-2
+slice-bounds-same_octets-end-2 g c =
     let bound =
     sizes-are-bounded (g.C.Cipher.ciphers c.args.self.now.cipher) (g.I.Integrity.checks c.args.self.now.integrity)
     (g.met.C.Cipher.cipher_sizes_are_bounded c.args.self.now.cipher)
@@ -19,8 +19,8 @@ slice-bounds-same-octets-end-2 g c =
     c.args.triple c.args.sizes c.requires.served in
     search rules
 
-pub returns-then-not-same-octets : goal.returns-then-not-same-octets
-returns-then-not-same-octets g c =
+pub returns-then-not-same_octets : goal.returns-then-not-same_octets
+returns-then-not-same_octets g c =
     let cipher = g.C.Cipher.ciphers c.args.self.now.cipher in
     let integrity = g.I.Integrity.checks c.args.self.now.integrity in
     let t = c.args.triple in
@@ -36,12 +36,12 @@ returns-then-not-same-octets g c =
     check-length cipher integrity (g.met.I.Integrity.check_value_has_its_size c.args.self.now.integrity) t z given
     (sides cipher integrity t z given c.requires.served c.requires.fits.lengths) (take n y) in
     let none =
-    compared cipher integrity t z given y c.requires.served n z.check false c.same-octets.result c.check-value.new.out (zeros 32) refl refl
-    long bound.check c.check-value.ensures.check-value-then-old c.same-octets.ensures.whether-all-are-equal
-    c.if-not-same-octets.true in
+    compared cipher integrity t z given y c.requires.served n z.check false c.same_octets.result c.check_value.new.out (zeros 32) refl refl
+    long bound.check c.check_value.ensures.check_value_then_old c.same_octets.ensures.whether_all_are_equal
+    c.if-not-same_octets.true in
     record {
-      text-counted = ap (λ o. counted (ok_or o Mismatch)) (sym none);
-      text-or-zeros-then-old = c.zero-first.ensures.zeros-then-old ∙ ap (λ o. output_after (ok_or o Mismatch) n out) (sym none);
+      text_counted = ap (λ o. counted (ok_or o Mismatch)) (sym none);
+      text_or_zeros_then_old = c.zero_first.ensures.zeros_then_old ∙ ap (λ o. output_after (ok_or o Mismatch) n out) (sym none);
     }
 
 pub returns-in-err-decipher : goal.returns-in-err-decipher
@@ -50,12 +50,12 @@ returns-in-err-decipher g c =
     let integrity = g.I.Integrity.checks c.args.self.now.integrity in
     let f = c.requires.fits in
     let n = length c.args.sealed.now - c.args.sizes.check in
-    let part = take (n - 0) c.copy-over.new.out in
+    let part = take (n - 0) c.copy_over.new.out in
     let long : length part ≡ n = search rules in
     let through =
     ciphers-through cipher integrity c.args.triple c.args.sizes (given c.args.inputs) c.requires.served f.lengths
     cipher.deciphered part c.args.work.now (ap (λ m. m % c.args.sizes.unit) long ∙ f.units) f.work-bytes in
-    let fine = c.decipher.ensures.whether-done ∙ ap done through in
+    let fine = c.decipher.ensures.whether_done ∙ ap done through in
     let failed = c.in-err-decipher.was in
     let z : ◌≡◌ {A = ℕ} 0 1 = cc in
     absurd (omega arith)
@@ -78,31 +78,31 @@ returns g c =
     let long =
     check-length cipher integrity (g.met.I.Integrity.check_value_has_its_size c.args.self.now.integrity) t z given side (take n y) in
     let some =
-    compared cipher integrity t z given y c.requires.served n z.check true c.same-octets.result c.check-value.new.out (zeros 32) refl refl
-    long bound.check c.check-value.ensures.check-value-then-old c.same-octets.ensures.whether-all-are-equal
-    c.if-not-same-octets.false in
-    let part-long : length (take (n - 0) c.copy-over.new.out) ≡ n = search rules in
+    compared cipher integrity t z given y c.requires.served n z.check true c.same_octets.result c.check_value.new.out (zeros 32) refl refl
+    long bound.check c.check_value.ensures.check_value_then_old c.same_octets.ensures.whether_all_are_equal
+    c.if-not-same_octets.false in
+    let part-long : length (take (n - 0) c.copy_over.new.out) ≡ n = search rules in
     let e-long : length (take (n - 0) y) ≡ n = search rules in
     let n-long : length (take n y) ≡ n = length-take-le n y (omega arith) in
     let through =
-    ciphers-through cipher integrity t z given c.requires.served f.lengths cipher.deciphered (take (n - 0) c.copy-over.new.out)
+    ciphers-through cipher integrity t z given c.requires.served f.lengths cipher.deciphered (take (n - 0) c.copy_over.new.out)
     c.args.work.now (ap (λ m. m % z.unit) part-long ∙ f.units) f.work-bytes in
     let x = cipher.deciphered given.key given.vector (take n y) in
-    let front : take (n - 0) c.copy-over.new.out ≡ take n y =
-    front-of-over (take (n - 0) y) c.copy-over.new.out out n (n - 0) (sub-zero n) e-long f.room c.copy-over.ensures.bytes-then-old
+    let front : take (n - 0) c.copy_over.new.out ≡ take n y =
+    front-of-over (take (n - 0) y) c.copy_over.new.out out n (n - 0) (sub-zero n) e-long f.room c.copy_over.ensures.bytes_then_old
     ∙ ap (λ m. take m y) (sub-zero n) in
     let x-is : c.decipher.new.text ≡ x =
     c.decipher.ensures.deciphered
-    ∙ (ap (λ r. text_after r (take (n - 0) c.copy-over.new.out)) through ∙ ap (cipher.deciphered given.key given.vector) front) in
+    ∙ (ap (λ r. text_after r (take (n - 0) c.copy_over.new.out)) through ∙ ap (cipher.deciphered given.key given.vector) front) in
     let x-long : length x ≡ n =
     g.met.C.Cipher.deciphering_keeps_length c.args.self.now.cipher t.encryption side.cipher given.key given.vector (take n y)
     side.cipher-told side.vector (whole-units cipher integrity t z given side (length (take n y)) (ap (λ m. m % z.unit) n-long ∙ f.units))
     ∙ n-long in
     record {
-      text-counted = ap Ok (sym x-long) ∙ ap (λ o. counted (ok_or o Mismatch)) (sym some);
-      text-or-zeros-then-old =
-          ap (λ w. w ++ drop (n - 0) c.copy-over.new.out) x-is
-          ∙ (ap (λ w. x ++ drop (n - 0) w) c.copy-over.ensures.bytes-then-old
+      text_counted = ap Ok (sym x-long) ∙ ap (λ o. counted (ok_or o Mismatch)) (sym some);
+      text_or_zeros_then_old =
+          ap (λ w. w ++ drop (n - 0) c.copy_over.new.out) x-is
+          ∙ (ap (λ w. x ++ drop (n - 0) w) c.copy_over.ensures.bytes_then_old
           ∙ (opened-in-place x (take (n - 0) y) out n (n - 0) (sub-zero n) x-long e-long f.room
           ∙ ap (λ o. output_after (ok_or o Mismatch) n out) (sym some)));
     }

@@ -20,13 +20,13 @@ returns-in-err-encipher g c =
     let through =
     ciphers-through cipher integrity c.args.triple c.args.sizes (given c.args.inputs) c.requires.served f.lengths
     cipher.enciphered part c.args.work.now (ap (λ n. n % c.args.sizes.unit) long ∙ f.units) f.work-bytes in
-    let fine = c.encipher.ensures.whether-done ∙ ap done through in
+    let fine = c.encipher.ensures.whether_done ∙ ap done through in
     let failed = c.in-err-encipher.was in
     let z : ◌≡◌ {A = ℕ} 0 1 = cc in
     absurd (omega arith)
 
-pub slice-bounds-copy-at-end : goal.slice-bounds-copy-at-end
-slice-bounds-copy-at-end g c =
+pub slice-bounds-copy_at-end : goal.slice-bounds-copy_at-end
+slice-bounds-copy_at-end g c =
     let bound =
     sizes-are-bounded (g.C.Cipher.ciphers c.args.self.now.cipher) (g.I.Integrity.checks c.args.self.now.integrity)
     (g.met.C.Cipher.cipher_sizes_are_bounded c.args.self.now.cipher)
@@ -64,11 +64,11 @@ returns g c =
     let v-is : v ≡ check_value cipher integrity t given e = ap (check_value cipher integrity t given) (back ∙ e-is) in
     let e-long : length e ≡ n = ap length (sym e-is) ∙ last-long in
     record {
-      sealed-bytes-counted = ap Ok (omega (arith, length-append e (check_value cipher integrity t given e), k e));
-      sealed-bytes-then-old =
-          c.copy-at.ensures.written
-          ∙ (sealed-in-place c.encipher.new.text v c.check-value.new.out (zeros 32) out n z.check (n - 0) (z.check - 0) (sub-zero n)
+      sealed_bytes_counted = ap Ok (omega (arith, length-append e (check_value cipher integrity t given e), k e));
+      sealed_bytes_then_old =
+          c.copy_at.ensures.written
+          ∙ (sealed-in-place c.encipher.new.text v c.check_value.new.out (zeros 32) out n z.check (n - 0) (z.check - 0) (sub-zero n)
           (sub-zero z.check) last-long (k (take (n - 0) (c.encipher.new.text ++ drop (n - 0) out))) f.room bound.check
-          c.check-value.ensures.check-value-then-old
+          c.check_value.ensures.check_value_then_old
           ∙ (ap (λ w. over (w ++ v) out) e-is ∙ ap (λ w. over (e ++ w) out) v-is));
     }

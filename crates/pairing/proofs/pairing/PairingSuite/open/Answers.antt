@@ -6,9 +6,9 @@ use Rattle.suite.proofs.Outcomes.{opening-served, opening-work}
 use Rattle.pairing.specs.Pairing.{pairing}
 use Rattle.pairing.proofs.pairing.PairingSuite.open.Goals as goal
 
-pub open-fitting-requires : goal.open-fitting-requires
-open-fitting-requires g c =
-    let o = openable _ _ _ _ _ _ (sym c.fit-opening.ensures.whether-it-may-be-opened ∙ c.if-not-fit-opening.false) in
+pub open_fitting-requires : goal.open_fitting-requires
+open_fitting-requires g c =
+    let o = openable _ _ _ _ _ _ (sym c.fit_opening.ensures.whether_it_may_be_opened ∙ c.if-not-fit_opening.false) in
     record {
       served = search rules;
       fits = record { lengths = o.lengths; check = o.check; units = o.units; short = o.short; room = o.room; work-bytes = search rules };
@@ -23,17 +23,17 @@ returns g c =
     let y = c.args.sealed.now in
     let out = c.args.out.now in
     let work = c.args.work.now in
-    let fits = sym c.fit-opening.ensures.whether-it-may-be-opened ∙ c.if-not-fit-opening.false in
+    let fits = sym c.fit_opening.ensures.whether_it_may_be_opened ∙ c.if-not-fit_opening.false in
     let o = openable t z given (length y) (length out) (length work) fits in
     let served : pair.serves t ≡ Some z = search rules in
     let opened = opening-served pair t z given served y out work fits in
     record {
-      text-counted = c.open-fitting.ensures.text-counted ∙ ap counted (sym opened);
-      text-or-zeros-then-old =
-          c.open-fitting.ensures.text-or-zeros-then-old
+      text_counted = c.open_fitting.ensures.text_counted ∙ ap counted (sym opened);
+      text_or_zeros_then_old =
+          c.open_fitting.ensures.text_or_zeros_then_old
           ∙ (ap (λ r. output_after r (length y - z.check) out) (sym opened)
           ∙ ap (λ s. output_after (opening pair t given y out work) (length y - check_size s) out) (sym served));
-      work-bytes-zero =
-          guarded _ c.open-fitting.new.work work c.drop-guard.ensures.work-bytes-zero (search rules) o.work-bytes
+      work_bytes_zero =
+          guarded _ c.open_fitting.new.work work c.drop-guard.ensures.work_bytes_zero (search rules) o.work-bytes
           ∙ (sym (opening-work (pair.opened t given y) work) ∙ ap (λ r. work_after r work) (sym opened));
     }
