@@ -1,4 +1,5 @@
 // CCM over any block cipher as a suite.
+ghost use Rattle.suite.proofs.Mismatch.{mismatch-when-no-text-seals};
 ghost use Rattle.combined.specs.CcmSuite.{ccm_suite};
 ghost use Rattle.combined.specs.CcmLaws as ccm;
 
@@ -34,6 +35,25 @@ impl<B: BlockCipher> Suite for Ccm<B> {
         B.BlockCipher.forward_keeps_length
         B.BlockCipher.expanding_gives_bytes
         B.BlockCipher.forward_gives_bytes };
+
+    ghost opening_undoes_sealing = { λ s.
+        ccm.opening-undoes-sealing B.BlockCipher.scheduled B.BlockCipher.expanded B.BlockCipher.forward s.encryption s.integrity
+        B.BlockCipher.forward_keeps_length };
+
+    ghost what_opens_was_sealed = { λ s.
+        ccm.what-opens-was-sealed B.BlockCipher.scheduled B.BlockCipher.expanded B.BlockCipher.forward s.encryption s.integrity
+        B.BlockCipher.forward_keeps_length
+        B.BlockCipher.expanding_gives_bytes
+        B.BlockCipher.forward_gives_bytes };
+
+    ghost mismatch_when_no_text_seals = { λ s.
+        mismatch-when-no-text-seals (ccm_suite B.BlockCipher.scheduled B.BlockCipher.expanded B.BlockCipher.forward s.encryption s.integrity)
+        (ccm.opening-undoes-sealing B.BlockCipher.scheduled B.BlockCipher.expanded B.BlockCipher.forward s.encryption s.integrity
+        B.BlockCipher.forward_keeps_length)
+        (ccm.what-opens-was-sealed B.BlockCipher.scheduled B.BlockCipher.expanded B.BlockCipher.forward s.encryption s.integrity
+        B.BlockCipher.forward_keeps_length
+        B.BlockCipher.expanding_gives_bytes
+        B.BlockCipher.forward_gives_bytes) };
 
     fn sizes(&self, triple: Triple) -> Option<Sizes> {
         if triple.encryption != self.encryption || triple.integrity != self.integrity {

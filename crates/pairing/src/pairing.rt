@@ -4,6 +4,7 @@ ghost use Rattle.std.specs.Option.{ok_or};
 ghost use Rattle.octets.specs.Octets.{over};
 ghost use Rattle.suite.specs.Fits.{Sealable, Openable};
 ghost use Rattle.suite.specs.Meaning.{given, counted, output_after};
+ghost use Rattle.suite.proofs.Mismatch.{mismatch-when-no-text-seals};
 ghost use Rattle.suite.specs.declared.fault.Fault.TheVariants.{Mismatch};
 ghost use Rattle.pairing.specs.Pairing.{pairing, pair_serves, pair_sealed, pair_opened, check_value};
 ghost use Rattle.pairing.specs.PairingLaws as pair;
@@ -38,6 +39,27 @@ impl<C: Cipher, I: Integrity> Suite for Pairing<C, I> {
         pair.sealing-gives-bytes (C.Cipher.ciphers s.cipher) (I.Integrity.checks s.integrity)
         (C.Cipher.enciphering_gives_bytes s.cipher)
         (I.Integrity.check_value_has_its_size s.integrity) };
+
+    ghost opening_undoes_sealing = { λ s.
+        pair.opening-undoes-sealing (C.Cipher.ciphers s.cipher) (I.Integrity.checks s.integrity)
+        (C.Cipher.deciphering_undoes_enciphering s.cipher)
+        (I.Integrity.check_value_has_its_size s.integrity) };
+
+    ghost what_opens_was_sealed = { λ s.
+        pair.what-opens-was-sealed (C.Cipher.ciphers s.cipher) (I.Integrity.checks s.integrity)
+        (C.Cipher.deciphering_keeps_length s.cipher)
+        (C.Cipher.deciphering_gives_bytes s.cipher)
+        (C.Cipher.enciphering_undoes_deciphering s.cipher) };
+
+    ghost mismatch_when_no_text_seals = { λ s.
+        mismatch-when-no-text-seals (pairing (C.Cipher.ciphers s.cipher) (I.Integrity.checks s.integrity))
+        (pair.opening-undoes-sealing (C.Cipher.ciphers s.cipher) (I.Integrity.checks s.integrity)
+        (C.Cipher.deciphering_undoes_enciphering s.cipher)
+        (I.Integrity.check_value_has_its_size s.integrity))
+        (pair.what-opens-was-sealed (C.Cipher.ciphers s.cipher) (I.Integrity.checks s.integrity)
+        (C.Cipher.deciphering_keeps_length s.cipher)
+        (C.Cipher.deciphering_gives_bytes s.cipher)
+        (C.Cipher.enciphering_undoes_deciphering s.cipher)) };
 
     fn sizes(&self, triple: Triple) -> Option<Sizes> {
         let cipher = self.cipher.sizes(triple.encryption, triple.key)?;

@@ -9,7 +9,7 @@ pub loop-i-init : goal.loop-i-init
 loop-i-init c = rw sub-zero refl
 
 pub loop-i-preserved : goal.loop-i-preserved
-loop-i-preserved c = inv_rounds_from-more _ _ _ _ _ _ (search rules) c.loop-i.invariant c.round-back.ensures.one_round_back
+loop-i-preserved c = inv_rounds_from-more _ _ _ _ _ _ (search rules) c.loop-i.invariant c.round_back.ensures.one_round_back
 
 pub returns : goal.returns
 unfolding inv_rounds_from

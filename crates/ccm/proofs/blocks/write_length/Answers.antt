@@ -16,12 +16,12 @@ returns-then-is_short c =
       length_then_old = c.write_u16.ensures.written ∙ (placed-start (big_endian 2 n) block (omega arith) ∙ ap (λ z. over z block) (sym is));
     }
 
-pub returns-then-count-lt-FOUR-BYTES : goal.returns-then-count-lt-FOUR-BYTES
-returns-then-count-lt-FOUR-BYTES c =
+pub returns-then-count-lt-FOUR_BYTES : goal.returns-then-count-lt-FOUR_BYTES
+returns-then-count-lt-FOUR_BYTES c =
     let n = c.args.count in
     let block = c.args.block.now in
     let above = ltb-false n 0xff00 (sym c.is_short.ensures.below_the_limit ∙ c.if-is_short.false) in
-    let is = middle-length n above c.if-count-lt-FOUR-BYTES.true in
+    let is = middle-length n above c.if-count-lt-FOUR_BYTES.true in
     record {
       at_most_ten = omega arith;
       bytes_counted = ap length (sym is);
@@ -33,7 +33,7 @@ pub returns : goal.returns
 returns c =
     let n = c.args.count in
     let block = c.args.block.now in
-    let is = long-length n c.if-count-lt-FOUR-BYTES.false in
+    let is = long-length n c.if-count-lt-FOUR_BYTES.false in
     record {
       at_most_ten = omega arith;
       bytes_counted = ap length (sym is);

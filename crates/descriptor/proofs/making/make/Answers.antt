@@ -10,20 +10,20 @@ use Rattle.descriptor.proofs.making.make.Goals as goal
 pub admit-requires : goal.admit-requires
 admit-requires g c =
     let m = g.S.Suite.meaning c.args.suite.now in
-    let served : m.serves c.args.under.triple ≡ Some c.in-ok-sizes.sizes = search rules in
-    record { bounded = g.met.S.Suite.sizes_are_bounded c.args.suite.now c.args.under.triple c.in-ok-sizes.sizes served }
+    let served : m.serves c.args.under.triple ≡ Some c.in_ok-sizes.sizes = search rules in
+    record { bounded = g.met.S.Suite.sizes_are_bounded c.args.suite.now c.args.under.triple c.in_ok-sizes.sizes served }
 
-pub returns-in-err-admit : goal.returns-in-err-admit
-returns-in-err-admit g c =
+pub returns-in_err-admit : goal.returns-in_err-admit
+returns-in_err-admit g c =
     let m = g.S.Suite.meaning c.args.suite.now in
     let out = c.args.out.now in
     let work = c.args.work.now in
-    let fault = c.in-err-admit.field-0.0 in
-    let served : m.serves c.args.under.triple ≡ Some c.in-ok-sizes.sizes = search rules in
-    let passed_on : c.from-residual-in-err-admit.result ≡ Err fault = search rules in
+    let fault = c.in_err-admit.field-0.0 in
+    let served : m.serves c.args.under.triple ≡ Some c.in_ok-sizes.sizes = search rules in
+    let passed_on : c.from-residual-in_err-admit.result ≡ Err fault = search rules in
     let refused =
-    making-refused m c.args.under c.args.label c.args.vector.now c.args.data.now out work c.in-ok-sizes.sizes served fault
-    (sym c.admit.ensures.first_that_fits ∙ c.in-err-admit.was) in
+    making-refused m c.args.under c.args.label c.args.vector.now c.args.data.now out work c.in_ok-sizes.sizes served fault
+    (sym c.admit.ensures.first_that_fits ∙ c.in_err-admit.was) in
     record {
       length-answered = passed_on ∙ ap answer (sym refused);
       descriptor-then-old = ap (λ r. output_after r out) (sym refused);
@@ -34,14 +34,14 @@ returns-in-err-admit g c =
 pub make_fitting-requires : goal.make_fitting-requires
 make_fitting-requires g c =
     let m = g.S.Suite.meaning c.args.suite.now in
-    let z = c.in-ok-sizes.sizes in
+    let z = c.in_ok-sizes.sizes in
     let served : m.serves c.args.under.triple ≡ Some z = search rules in
     record {
       served = served;
       bounded = g.met.S.Suite.sizes_are_bounded c.args.suite.now c.args.under.triple z served;
       fits =
           makeable c.args.under c.args.label.form z (length c.args.vector.now) (length c.args.data.now) (length c.args.out.now)
-          (length c.args.work.now) (sym c.admit.ensures.first_that_fits ∙ c.in-ok-admit.was);
+          (length c.args.work.now) (sym c.admit.ensures.first_that_fits ∙ c.in_ok-admit.was);
     }
 
 pub returns : goal.returns
@@ -54,10 +54,10 @@ returns g c =
     let xs = c.args.data.now in
     let out = c.args.out.now in
     let work = c.args.work.now in
-    let z = c.in-ok-sizes.sizes in
+    let z = c.in_ok-sizes.sizes in
     let served : m.serves p.triple ≡ Some z = search rules in
     let bounded = g.met.S.Suite.sizes_are_bounded suite p.triple z served in
-    let admitted = sym c.admit.ensures.first_that_fits ∙ c.in-ok-admit.was in
+    let admitted = sym c.admit.ensures.first_that_fits ∙ c.in_ok-admit.was in
     let fits = makeable p l.form z (length vector) (length xs) (length out) (length work) admitted in
     let done = making-made m p l vector xs out work z served admitted in
     let long : length (made_bytes m p l vector xs out work z) ≤ length out =

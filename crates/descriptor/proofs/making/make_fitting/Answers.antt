@@ -4,8 +4,8 @@ use Rattle.suite.specs.Meaning.{counted, output_after, work_after}
 use Rattle.descriptor.proofs.Laid.{laid}
 use Rattle.descriptor.proofs.making.make_fitting.Goals as goal
 
-pub returns-in-err-seal : goal.returns-in-err-seal
-returns-in-err-seal g c =
+pub returns-in_err-seal : goal.returns-in_err-seal
+returns-in_err-seal g c =
     let laid =
     laid (g.S.Suite.meaning c.args.suite.now) c.args.under c.args.label c.args.sizes c.args.vector.now c.args.data.now
     c.args.out.now c.args.work.now (g.met.S.Suite.sealing_adds_the_check_value c.args.suite.now) c.requires.served c.requires.bounded
@@ -13,7 +13,7 @@ returns-in-err-seal g c =
     c.lead.ensures c.text_length-text.ensures.as_padded c.head_of-head.ensures.sai_then_sqn c.write_front.ensures.front_then_old
     c.write_text.ensures.text_of_the_data in
     let fine = c.seal.ensures.sealed_bytes_counted ∙ ap counted laid.sealed in
-    let failed = c.in-err-seal.was in
+    let failed = c.in_err-seal.was in
     let no' : ◌≡◌ {A = ℕ} 0 1 = cc in
     absurd (omega arith)
 

@@ -9,15 +9,15 @@ use Rattle.descriptor.specs.declared.fault.Fault.TheVariants.{Suite}
 use Rattle.descriptor.proofs.OpeningSteps.{Bytes, given-text, failed-answer, failed-data, failed-work, written-again, work-wiped}
 use Rattle.descriptor.proofs.opening.open_text.Goals as goal
 
-pub returns-in-err-text : goal.returns-in-err-text
-returns-in-err-text g c =
+pub returns-in_err-text : goal.returns-in_err-text
+returns-in_err-text g c =
     let m = g.S.Suite.meaning c.args.suite.now in
     let z = c.args.sizes in
     let y = c.args.sealed.now in
     let e = length y - z.check in
     let o = suite.opening m c.args.triple (given c.args.inputs) y c.args.data.now c.args.work.now in
-    let f = c.in-err-text.field-0.0 in
-    let failed : counted o ≡ Err f = sym c.open.ensures.text_counted ∙ c.in-err-text.was in
+    let f = c.in_err-text.field-0.0 in
+    let failed : counted o ≡ Err f = sym c.open.ensures.text_counted ∙ c.in_err-text.was in
     let up : c.from-residual.result ≡ Err (Suite f) = search rules in
     record {
       data_length_answered = up ∙ failed-answer z e o f failed;
@@ -44,7 +44,7 @@ unpad-requires g c =
     } in
     let came = given-text m c.args.triple c.args.sizes (given c.args.inputs) y buffer c.args.work.now c.requires.served
     (g.met.S.Suite.what_opens_was_sealed c.args.suite.now) (g.met.S.Suite.sealing_adds_the_check_value c.args.suite.now) bytes
-    c.in-ok-text.text (sym c.open.ensures.text_counted ∙ c.in-ok-text.was) in
+    c.in_ok-text.text (sym c.open.ensures.text_counted ∙ c.in_ok-text.was) in
     let stands : c.open.new.out ≡ over came.text buffer =
     c.open.ensures.text_or_zeros_then_old
     ∙ ap (λ r. suite.output_after r (length y - check_size (m.serves c.args.triple)) buffer) came.is in
@@ -60,7 +60,7 @@ returns g c =
     let z = c.args.sizes in
     let y = c.args.sealed.now in
     let e = length y - z.check in
-    let n = c.in-ok-text.text in
+    let n = c.in_ok-text.text in
     let buffer = c.args.data.now in
     let work = c.args.work.now in
     let o = suite.opening m c.args.triple (given c.args.inputs) y buffer work in
@@ -74,7 +74,7 @@ returns g c =
     } in
     let came = given-text m c.args.triple z (given c.args.inputs) y buffer work c.requires.served
     (g.met.S.Suite.what_opens_was_sealed c.args.suite.now) (g.met.S.Suite.sealing_adds_the_check_value c.args.suite.now) bytes
-    n (sym c.open.ensures.text_counted ∙ c.in-ok-text.was) in
+    n (sym c.open.ensures.text_counted ∙ c.in_ok-text.was) in
     let text = came.text in
     let stands : c.open.new.out ≡ over text buffer =
     c.open.ensures.text_or_zeros_then_old

@@ -8,8 +8,8 @@ use Rattle.descriptor.specs.Opening.{answer, data_after, unpadding}
 use Rattle.descriptor.proofs.OpeningSteps.{text_in-clear, text-padded, text-kept, front-and-zeros}
 use Rattle.descriptor.proofs.opening.unpad.Goals as goal
 
-pub slice-bounds-zero_first-end : goal.slice-bounds-zero_first-end
-slice-bounds-zero_first-end c =
+pub slice_bounds-zero_first-end : goal.slice_bounds-zero_first-end
+slice_bounds-zero_first-end c =
     let text = take (c.args.text - 0) c.args.data.now in
     let long : length text ≡ c.args.text = search rules in
     let within : c.in-Some.n + 2 ≤ length text = data_length-within text c.in-Some.n (sym c.data_length.ensures.before_the_trailer ∙ c.in-Some.is) in

@@ -6,6 +6,6 @@ use Rattle.sha.proofs.sha256.extend_by_eight.Goals as goal
 pub returns : goal.returns
 returns c =
     record {
-      eight-words =
+      eight_words =
           eight-turns extended c.args.first c.args.w.now c.extend.ensures.one_word c.extend-2.ensures.one_word c.extend-3.ensures.one_word c.extend-4.ensures.one_word c.extend-5.ensures.one_word c.extend-6.ensures.one_word c.extend-7.ensures.one_word c.extend-8.ensures.one_word;
     }

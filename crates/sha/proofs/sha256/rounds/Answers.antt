@@ -15,7 +15,7 @@ loop-i-preserved c =
     let v = c.args.v.now in
     let i = c.loop-i.i in
     let done : 8 * i + 8 ≡ 8 * (i + 1) = omega arith in
-    c.eight_rounds.ensures.eight-turns ∙ turns-after step (8 * i) 8 v _ c.loop-i.invariant ∙ ap (λ (n : ℕ). turns step n v) done
+    c.eight_rounds.ensures.eight_turns ∙ turns-after step (8 * i) 8 v _ c.loop-i.invariant ∙ ap (λ (n : ℕ). turns step n v) done
 
 pub returns : goal.returns
 returns c =

@@ -40,7 +40,7 @@ further block w m (suc n) later fits before =
     subst (Upto block (extended t u)) next (length-set u t (expanded u t) ∙ so_far.0, more)
 
 pub loop-i-init : goal.loop-i-init
-loop-i-init c = (c.type-inv.w, c.write_block.ensures.first-words)
+loop-i-init c = (c.type_inv.w, c.write_block.ensures.first_words)
 
 pub loop-i-preserved : goal.loop-i-preserved
 loop-i-preserved c =
@@ -48,7 +48,7 @@ loop-i-preserved c =
     let m = 8 * c.loop-i.i in
     let eight-more = further block c.loop-i.w m 8 (omega arith) (omega arith) c.loop-i.invariant in
     let next : m + 8 ≡ 8 * (c.loop-i.i + 1) = omega arith in
-    subst (Upto block _) next (subst (λ u. Upto block u (m + 8)) (sym c.extend_by_eight.ensures.eight-words) eight-more)
+    subst (Upto block _) next (subst (λ u. Upto block u (m + 8)) (sym c.extend_by_eight.ensures.eight_words) eight-more)
 
 pub returns : goal.returns
 returns c = record { all_words = built-all _ _ (8 * c.loop-i.i) 64 (omega arith) c.loop-i.invariant.0 c.loop-i.invariant.1 }

@@ -28,4 +28,4 @@ loop-t-preserved c =
 pub returns : goal.returns
 returns c =
     let all : c.loop-t.t ≡ 16 = omega arith in
-    record { first-words = subst (λ t. take t c.loop-t.w ≡ built (scheduled c.args.block.now) t) all c.loop-t.invariant.1 }
+    record { first_words = subst (λ t. take t c.loop-t.w ≡ built (scheduled c.args.block.now) t) all c.loop-t.invariant.1 }

@@ -11,7 +11,7 @@ pub open_keyed-requires : goal.open_keyed-requires
 open_keyed-requires g c =
     let own = c.args.self.now in
     let t = c.args.triple in
-    let z = c.in-ok-sizes.sizes in
+    let z = c.in_ok-sizes.sizes in
     let o = openable t z (given c.args.inputs) _ _ _ (sym c.fit_opening.ensures.whether_it_may_be_opened ∙ c.if-not-fit_opening.false) in
     let p = terms g.B.BlockCipher.scheduled own.encryption own.integrity t z (search rules) in
     let k = keyed g.B.BlockCipher.scheduled t z (given c.args.inputs) p o.lengths in
@@ -30,7 +30,7 @@ returns g c =
     let own = c.args.self.now in
     let suite = ccm_suite g.B.BlockCipher.scheduled g.B.BlockCipher.expanded g.B.BlockCipher.forward own.encryption own.integrity in
     let t = c.args.triple in
-    let z = c.in-ok-sizes.sizes in
+    let z = c.in_ok-sizes.sizes in
     let given = given c.args.inputs in
     let y = c.args.sealed.now in
     let out = c.args.out.now in

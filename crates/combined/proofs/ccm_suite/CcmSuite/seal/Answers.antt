@@ -11,7 +11,7 @@ pub seal_keyed-requires : goal.seal_keyed-requires
 seal_keyed-requires g c =
     let own = c.args.self.now in
     let t = c.args.triple in
-    let z = c.in-ok-sizes.sizes in
+    let z = c.in_ok-sizes.sizes in
     let s = sealable t z (given c.args.inputs) _ _ _ (sym c.fit_sealing.ensures.whether_it_may_be_sealed ∙ c.if-not-fit_sealing.false) in
     let p = terms g.B.BlockCipher.scheduled own.encryption own.integrity t z (search rules) in
     let k = keyed g.B.BlockCipher.scheduled t z (given c.args.inputs) p s.lengths in
@@ -29,7 +29,7 @@ returns g c =
     let own = c.args.self.now in
     let suite = ccm_suite g.B.BlockCipher.scheduled g.B.BlockCipher.expanded g.B.BlockCipher.forward own.encryption own.integrity in
     let t = c.args.triple in
-    let z = c.in-ok-sizes.sizes in
+    let z = c.in_ok-sizes.sizes in
     let given = given c.args.inputs in
     let out = c.args.out.now in
     let work = c.args.work.now in

@@ -10,8 +10,8 @@ use Rattle.pairing.specs.PairingLaws.{sizes-are-bounded, sides, check-length, wh
 use Rattle.pairing.proofs.PairingSteps.{ciphers-through, compared, front-of-over, opened-in-place}
 use Rattle.pairing.proofs.pairing.Pairing.open_fitting.Goals as goal
 
-pub slice-bounds-same_octets-end-2 : goal.slice-bounds-same_octets-end-2
-slice-bounds-same_octets-end-2 g c =
+pub slice_bounds-same_octets-end-2 : goal.slice_bounds-same_octets-end-2
+slice_bounds-same_octets-end-2 g c =
     let bound =
     sizes-are-bounded (g.C.Cipher.ciphers c.args.self.now.cipher) (g.I.Integrity.checks c.args.self.now.integrity)
     (g.met.C.Cipher.cipher_sizes_are_bounded c.args.self.now.cipher)
@@ -44,8 +44,8 @@ returns-then-not-same_octets g c =
       text_or_zeros_then_old = c.zero_first.ensures.zeros_then_old ∙ ap (λ o. output_after (ok_or o Mismatch) n out) (sym none);
     }
 
-pub returns-in-err-decipher : goal.returns-in-err-decipher
-returns-in-err-decipher g c =
+pub returns-in_err-decipher : goal.returns-in_err-decipher
+returns-in_err-decipher g c =
     let cipher = g.C.Cipher.ciphers c.args.self.now.cipher in
     let integrity = g.I.Integrity.checks c.args.self.now.integrity in
     let f = c.requires.fits in
@@ -56,7 +56,7 @@ returns-in-err-decipher g c =
     ciphers-through cipher integrity c.args.triple c.args.sizes (given c.args.inputs) c.requires.served f.lengths
     cipher.deciphered part c.args.work.now (ap (λ m. m % c.args.sizes.unit) long ∙ f.units) f.work-bytes in
     let fine = c.decipher.ensures.whether_done ∙ ap done through in
-    let failed = c.in-err-decipher.was in
+    let failed = c.in_err-decipher.was in
     let z : ◌≡◌ {A = ℕ} 0 1 = cc in
     absurd (omega arith)
 

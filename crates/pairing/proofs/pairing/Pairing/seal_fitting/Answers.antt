@@ -9,8 +9,8 @@ use Rattle.pairing.specs.PairingLaws.{sizes-are-bounded, sides, check-length}
 use Rattle.pairing.proofs.PairingSteps.{ciphers-through, sealed-in-place}
 use Rattle.pairing.proofs.pairing.Pairing.seal_fitting.Goals as goal
 
-pub returns-in-err-encipher : goal.returns-in-err-encipher
-returns-in-err-encipher g c =
+pub returns-in_err-encipher : goal.returns-in_err-encipher
+returns-in_err-encipher g c =
     let cipher = g.C.Cipher.ciphers c.args.self.now.cipher in
     let integrity = g.I.Integrity.checks c.args.self.now.integrity in
     let out = c.args.out.now in
@@ -21,12 +21,12 @@ returns-in-err-encipher g c =
     ciphers-through cipher integrity c.args.triple c.args.sizes (given c.args.inputs) c.requires.served f.lengths
     cipher.enciphered part c.args.work.now (ap (λ n. n % c.args.sizes.unit) long ∙ f.units) f.work-bytes in
     let fine = c.encipher.ensures.whether_done ∙ ap done through in
-    let failed = c.in-err-encipher.was in
+    let failed = c.in_err-encipher.was in
     let z : ◌≡◌ {A = ℕ} 0 1 = cc in
     absurd (omega arith)
 
-pub slice-bounds-copy_at-end : goal.slice-bounds-copy_at-end
-slice-bounds-copy_at-end g c =
+pub slice_bounds-copy_at-end : goal.slice_bounds-copy_at-end
+slice_bounds-copy_at-end g c =
     let bound =
     sizes-are-bounded (g.C.Cipher.ciphers c.args.self.now.cipher) (g.I.Integrity.checks c.args.self.now.integrity)
     (g.met.C.Cipher.cipher_sizes_are_bounded c.args.self.now.cipher)

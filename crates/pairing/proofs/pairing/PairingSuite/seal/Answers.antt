@@ -18,7 +18,7 @@ pub returns : goal.returns
 returns g c =
     let pair = pairing (g.C.Cipher.ciphers c.args.self.now.cipher) (g.I.Integrity.checks c.args.self.now.integrity) in
     let t = c.args.triple in
-    let z = c.in-ok-sizes.sizes in
+    let z = c.in_ok-sizes.sizes in
     let given = given c.args.inputs in
     let out = c.args.out.now in
     let work = c.args.work.now in
