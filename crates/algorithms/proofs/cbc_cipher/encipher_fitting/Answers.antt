@@ -10,6 +10,6 @@ returns g c =
     record {
       enciphered =
           turned-fitting turned c.args.schedule c.expand.new.work (g.B.BlockCipher.expanded c.args.key.now) c.args.vector.now (zeros 16)
-          c.copy_over.new.out c.args.text.now c.encipher.new.text c.expand.ensures.schedule-first c.requires.one_block
+          c.copy_over.new.out c.args.text.now c.encipher.new.text c.expand.ensures.schedule_first c.requires.one_block
           c.copy_over.ensures.bytes_then_old c.requires.whole_blocks c.encipher.ensures.enciphered;
     }

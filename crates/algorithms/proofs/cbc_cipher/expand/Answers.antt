@@ -10,8 +10,8 @@ returns g c =
     let short = g.met.B.BlockCipher.schedules_are_short (length key) n c.requires.served in
     let long = g.met.B.BlockCipher.expanding_gives_its_length key n c.requires.served in
     record {
-      room = omega (arith, short, c.requires.work-bytes, c.expand_key.auto.work);
-      schedule-first =
+      room = omega (arith, short, c.requires.work_bytes, c.expand_key.auto.work);
+      schedule_first =
           ap (take n) c.expand_key.ensures.schedule_then_old
-          ∙ schedule-first (g.B.BlockCipher.scheduled (length key)) n (g.B.BlockCipher.expanded key) work c.requires.served short long c.requires.work-bytes;
+          ∙ schedule-first (g.B.BlockCipher.scheduled (length key)) n (g.B.BlockCipher.expanded key) work c.requires.served short long c.requires.work_bytes;
     }

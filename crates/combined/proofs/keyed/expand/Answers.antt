@@ -7,7 +7,7 @@ returns g c =
     let key = c.args.key.now in
     let there =
     expanded-there (g.B.BlockCipher.scheduled (length key)) (g.B.BlockCipher.expanded key) c.args.work.now c.expand_key.new.work
-    c.expand_key.result c.requires.taken c.requires.work-bytes
+    c.expand_key.result c.requires.taken c.requires.work_bytes
     (λ m. g.met.B.BlockCipher.schedules_are_short (length key) m)
     (λ m. g.met.B.BlockCipher.expanding_gives_its_length key m)
     c.expand_key.ensures.schedule_counted c.expand_key.ensures.schedule_then_old in

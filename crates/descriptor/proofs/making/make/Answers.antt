@@ -20,15 +20,15 @@ returns-in_err-admit g c =
     let work = c.args.work.now in
     let fault = c.in_err-admit.field-0.0 in
     let served : m.serves c.args.under.triple ≡ Some c.in_ok-sizes.sizes = search rules in
-    let passed_on : c.from-residual-in_err-admit.result ≡ Err fault = search rules in
+    let passed_on : c.from_residual-in_err-admit.result ≡ Err fault = search rules in
     let refused =
     making-refused m c.args.under c.args.label c.args.vector.now c.args.data.now out work c.in_ok-sizes.sizes served fault
     (sym c.admit.ensures.first_that_fits ∙ c.in_err-admit.was) in
     record {
-      length-answered = passed_on ∙ ap answer (sym refused);
-      descriptor-then-old = ap (λ r. output_after r out) (sym refused);
+      length_answered = passed_on ∙ ap answer (sym refused);
+      descriptor_then_old = ap (λ r. output_after r out) (sym refused);
       work_bytes_zero = ap (λ r. work_after r work) (sym refused);
-      opens-to-its-data = subst (λ (r : Result ℕ Fault). IfOk r (λ n. OpensTo m c.args.under c.args.label c.args.data.now (take n out))) (sym passed_on) tt;
+      opens_to_its_data = subst (λ (r : Result ℕ Fault). IfOk r (λ n. OpensTo m c.args.under c.args.label c.args.data.now (take n out))) (sym passed_on) tt;
     }
 
 pub make_fitting-requires : goal.make_fitting-requires
@@ -63,12 +63,12 @@ returns g c =
     let long : length (made_bytes m p l vector xs out work z) ≤ length out =
     omega (arith, fits.room, made-long m p l z vector xs (length out) (length work) (g.met.S.Suite.sealing_adds_the_check_value suite) served bounded fits out work) in
     record {
-      length-answered = c.make_fitting.ensures.length-answered ∙ ap answer (sym done);
-      descriptor-then-old = c.make_fitting.ensures.descriptor-then-old ∙ ap (λ r. output_after r out) (sym done);
+      length_answered = c.make_fitting.ensures.length_answered ∙ ap answer (sym done);
+      descriptor_then_old = c.make_fitting.ensures.descriptor_then_old ∙ ap (λ r. output_after r out) (sym done);
       work_bytes_zero = c.make_fitting.ensures.work_bytes_zero ∙ ap (λ r. work_after r work) (sym done);
-      opens-to-its-data =
+      opens_to_its_data =
           opens-to m p l z vector xs (length out) (length work) (g.met.S.Suite.opening_undoes_sealing suite)
           (g.met.S.Suite.sealing_adds_the_check_value suite) served bounded fits c.all_bytes.ensures.all_are_bytes (search rules) (search rules)
-          c.make_fitting.result out c.make_fitting.new.out c.make_fitting.ensures.length-answered
-          c.make_fitting.ensures.descriptor-then-old long;
+          c.make_fitting.result out c.make_fitting.new.out c.make_fitting.ensures.length_answered
+          c.make_fitting.ensures.descriptor_then_old long;
     }

@@ -31,7 +31,7 @@ returns g c =
       data_length_answered = c.open_parts.ensures.data_length_answered ∙ ap answer verdict;
       data_then_zeros_then_old = c.open_parts.ensures.data_then_zeros_then_old ∙ ap (λ v. data_after v buffer) verdict;
       work_bytes_zero = c.open_parts.ensures.work_bytes_zero ∙ ap (λ v. work_after v work) verdict;
-      what-opens-was-sealed =
+      what_opens_was_sealed =
           frame-sealed m p list buffer work z f told (g.met.S.Suite.what_opens_was_sealed c.args.suite.now)
           (g.met.S.Suite.opening_undoes_sealing c.args.suite.now) (g.met.S.Suite.sealing_adds_the_check_value c.args.suite.now) bytes at
           c.open_parts.result c.open_parts.new.data cut-so row within c.open_parts.ensures.data_length_answered

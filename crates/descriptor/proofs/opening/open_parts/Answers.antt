@@ -12,11 +12,11 @@ open_text-requires g c =
     let at = c.args.parts in
     record {
       served = c.requires.served;
-      key-bytes = c.requires.key-bytes;
+      key_bytes = c.requires.key_bytes;
       salt_bytes = c.requires.salt_bytes;
       integrity_bytes = c.requires.integrity_bytes;
       head_bytes = octets-between c.args.frame.head at.vector list c.requires.list_bytes;
-      vector-bytes = octets-between at.vector at.protected list c.requires.list_bytes;
+      vector_bytes = octets-between at.vector at.protected list c.requires.list_bytes;
       sealed_bytes = octets-between at.protected at.end list c.requires.list_bytes;
     }
 

@@ -18,7 +18,7 @@ returns-in_err-text g c =
     let o = suite.opening m c.args.triple (given c.args.inputs) y c.args.data.now c.args.work.now in
     let f = c.in_err-text.field-0.0 in
     let failed : counted o ≡ Err f = sym c.open.ensures.text_counted ∙ c.in_err-text.was in
-    let up : c.from-residual.result ≡ Err (Suite f) = search rules in
+    let up : c.from_residual.result ≡ Err (Suite f) = search rules in
     record {
       data_length_answered = up ∙ failed-answer z e o f failed;
       data_then_zeros_then_old =
@@ -35,11 +35,11 @@ unpad-requires g c =
     let buffer = c.args.data.now in
     let o = suite.opening m c.args.triple (given c.args.inputs) y buffer c.args.work.now in
     let bytes : Bytes (given c.args.inputs) c.args.sealed.now = record {
-      key = c.requires.key-bytes;
+      key = c.requires.key_bytes;
       salt = c.requires.salt_bytes;
       integrity = c.requires.integrity_bytes;
       head = c.requires.head_bytes;
-      vector = c.requires.vector-bytes;
+      vector = c.requires.vector_bytes;
       sealed = c.requires.sealed_bytes;
     } in
     let came = given-text m c.args.triple c.args.sizes (given c.args.inputs) y buffer c.args.work.now c.requires.served
@@ -65,11 +65,11 @@ returns g c =
     let work = c.args.work.now in
     let o = suite.opening m c.args.triple (given c.args.inputs) y buffer work in
     let bytes : Bytes (given c.args.inputs) c.args.sealed.now = record {
-      key = c.requires.key-bytes;
+      key = c.requires.key_bytes;
       salt = c.requires.salt_bytes;
       integrity = c.requires.integrity_bytes;
       head = c.requires.head_bytes;
-      vector = c.requires.vector-bytes;
+      vector = c.requires.vector_bytes;
       sealed = c.requires.sealed_bytes;
     } in
     let came = given-text m c.args.triple z (given c.args.inputs) y buffer work c.requires.served

@@ -22,7 +22,7 @@ open_keyed-requires g c =
       check_size = omega (arith, o.check, k.check);
       short = omega (arith, o.short, k.check);
       room = omega (arith, o.room, k.check);
-      work-bytes = search rules;
+      work_bytes = search rules;
     }
 
 pub returns : goal.returns

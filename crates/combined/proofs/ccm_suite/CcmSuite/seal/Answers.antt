@@ -21,7 +21,7 @@ seal_keyed-requires g c =
       vector_size = k.vector;
       short = s.short;
       room = omega (arith, s.room, k.check);
-      work-bytes = search rules;
+      work_bytes = search rules;
     }
 
 pub returns : goal.returns
