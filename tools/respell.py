@@ -18,6 +18,7 @@ MEMBER = re.compile(r"^\s+ghost (?P<name>[^\W\d][\w\-]*)\s*[:=]")
 
 # Words that port.py wrote together, and names whose parts a rule can't tell.
 BY_HAND = {
+    "opened-at": "pair_opened-opened_at",
     "initialcount": "initial_count",
     "turnedcount": "turned_count",
     "authHmacSha196": "auth_hmac_sha1_96",
@@ -50,10 +51,30 @@ def is_fact(lead, rest):
     return "record" in lead or "data" in lead or re.search(r"(^| )Type 0( where)?$", rest.strip()) is not None
 
 
-def new_name(name, fact):
+# Parts of a lemma's name that stand for something of the library: a dash joins them, as in std's own lemmas.
+OF_THE_LIBRARY = set(
+    "nil cons suc zero true false append length take drop get_or map replicate lt le eq sum octets number set pow xor".split()
+)
+
+# Words of a sentence: a name that has one is no pair of names.
+PLAIN = set("a the is are was be may not no so and of by to in at from as with if one two first".split())
+
+
+def new_name(name, fact, names):
+    """A dash stays between two names; a plain word is joined by `_`."""
+    if name in BY_HAND:
+        return BY_HAND[name]
     if fact and name[0].isupper():
         return camel(name)
-    return "-".join(spell_part(p) for p in name.split("-"))
+    if name[0].isupper():
+        return name
+    parts = [spell_part(p) for p in name.split("-")]
+    if PLAIN & set(parts):
+        return "_".join(parts)
+    new = parts[0]
+    for before, part in zip(parts, parts[1:]):
+        new += ("-" if before in names and part in names else "_") + part
+    return new
 
 
 def files():
@@ -87,10 +108,12 @@ def main():
     for p, text in texts.items():
         for m in TOKEN.finditer(text):
             words.setdefault(m[0], set()).add(p)
+    found = [pair for p, text in texts.items() for pair in declared(p, text)]
+    names = OF_THE_LIBRARY | {spell_part(name) for name, fact in found if "-" not in name and not name[0].isupper()}
     table = {}
-    for p, text in texts.items():
-        for name, fact in declared(p, text):
-            new = new_name(name, fact)
+    for name, fact in found:
+        if name not in table:
+            new = new_name(name, fact, names)
             if new != name:
                 table[name] = new
     for name in sorted(table):

@@ -7,21 +7,21 @@ use Rattle.std.proofs.ByRecursion.{All-append, All-take, All-drop}
 use Rattle.std.proofs.lemmas.List.{length-append, length-take, length-drop, length-take-le, take-append-drop, take-append-le, drop-append-le, get_or-take, get_or-drop}
 use Rattle.std.proofs.lemmas.Bool.{cond_both, eqb-true}
 use Rattle.octets.specs.Octets.{Octets, over, placed}
-use Rattle.octets.proofs.Octets.{over-fits, over-over, take-over-front, placed-behind}
+use Rattle.octets.proofs.Octets.{over-fits, over-over, take-over-front, placed_behind}
 use Rattle.block.specs.Xor.{xored}
 use Rattle.block.proofs.Sums.{length-xored, octets-xored}
 use Rattle.fips197.specs.Boxes.{s_box}
 use Rattle.aes.specs.Schedule.{scheduled, word, rot_word, sub_word, rcon_table, rcon, changed, next_word, grown, expanded}
 use Rattle.fips197.proofs.SBoxes.{s_box-lt}
-use Rattle.fips197.proofs.States.{get_or-lt, octets-replaced}
+use Rattle.fips197.proofs.States.{get_or-lt, octets_replaced}
 
 -- words
 
 four : (t : List ℕ) → length t ≡ 4 → t ≡ slice_index t 0 ∷ slice_index t 1 ∷ slice_index t 2 ∷ slice_index t 3 ∷ []
 four t e = fill_by_all (λ k. slice_index t k) t 4 0 e (λ k l. refl)
 
-pub four-at : (w : List ℕ) (i : ℕ) → i + 4 ≤ length w → slice_index w i ∷ slice_index w (i + 1) ∷ slice_index w (i + 2) ∷ slice_index w (i + 3) ∷ [] ≡ take 4 (drop i w)
-four-at w i h =
+pub four_at : (w : List ℕ) (i : ℕ) → i + 4 ≤ length w → slice_index w i ∷ slice_index w (i + 1) ∷ slice_index w (i + 2) ∷ slice_index w (i + 3) ∷ [] ≡ take 4 (drop i w)
+four_at w i h =
     let part = take 4 (drop i w) in
     let sized : length part ≡ 4 = simp (length-take, length-drop) (omega arith) in
     let read : (k : ℕ) → k < 4 → slice_index part k ≡ slice_index_or w (i + k) 0 = λ k l. get_or-take 4 (drop i w) k 0 l ∙ get_or-drop i w k 0 in
@@ -32,14 +32,14 @@ four-at w i h =
     let out : slice_index_or w i 0 ∷ slice_index w (i + 1) ∷ slice_index w (i + 2) ∷ slice_index w (i + 3) ∷ [] ≡ slice_index part 0 ∷ slice_index part 1 ∷ slice_index part 2 ∷ slice_index part 3 ∷ [] = cc in
     out ∙ sym (four part sized)
 
-pub sub_word-out : (t : List ℕ) {a b c d : ℕ} → length t ≡ 4 → a ≡ s_box (slice_index t 0) → b ≡ s_box (slice_index t 1) → c ≡ s_box (slice_index t 2) → d ≡ s_box (slice_index t 3) → a ∷ b ∷ c ∷ d ∷ [] ≡ sub_word t
-sub_word-out t {a} {b} {c} {d} e h₀ h₁ h₂ h₃ =
+pub sub_word_out : (t : List ℕ) {a b c d : ℕ} → length t ≡ 4 → a ≡ s_box (slice_index t 0) → b ≡ s_box (slice_index t 1) → c ≡ s_box (slice_index t 2) → d ≡ s_box (slice_index t 3) → a ∷ b ∷ c ∷ d ∷ [] ≡ sub_word t
+sub_word_out t {a} {b} {c} {d} e h₀ h₁ h₂ h₃ =
     let out : a ∷ b ∷ c ∷ d ∷ [] ≡ s_box (slice_index t 0) ∷ s_box (slice_index t 1) ∷ s_box (slice_index t 2) ∷ s_box (slice_index t 3) ∷ [] = cc in
     out ∙ sym (ap sub_word (four t e))
 
-pub turned-out : (t : List ℕ) (j : ℕ) {a b c d k : ℕ} → length t ≡ 4 → a ≡ s_box (slice_index t 1) → b ≡ s_box (slice_index t 2) → c ≡ s_box (slice_index t 3) → d ≡ s_box (slice_index t 0) → k ≡ slice_index rcon_table (j - 1)
+pub turned_out : (t : List ℕ) (j : ℕ) {a b c d k : ℕ} → length t ≡ 4 → a ≡ s_box (slice_index t 1) → b ≡ s_box (slice_index t 2) → c ≡ s_box (slice_index t 3) → d ≡ s_box (slice_index t 0) → k ≡ slice_index rcon_table (j - 1)
     → bit_xor a k ∷ b ∷ c ∷ d ∷ [] ≡ xored (sub_word (rot_word t)) (rcon j)
-turned-out t j {a} {b} {c} {d} {k} e h₀ h₁ h₂ h₃ h₄ =
+turned_out t j {a} {b} {c} {d} {k} e h₀ h₁ h₂ h₃ h₄ =
     let zero₁ = xor_zero_r (s_box (slice_index t 2)) in
     let zero₂ = xor_zero_r (s_box (slice_index t 3)) in
     let zero₃ = xor_zero_r (s_box (slice_index t 0)) in
@@ -89,17 +89,17 @@ pub record Sizes (n m : ℕ) : Type 0 where
   pub whole : n ≡ 4 * (n / 4)
   pub sized : m ≡ 16 * (n / 4 + 7)
 
-scheduled-cases : (s t : Bool) (m : ℕ) → cond s (Some 176) (cond t (Some 240) None) ≡ Some m → ((s ≡ true) × (m ≡ 176)) ⊎ ((t ≡ true) × (m ≡ 240))
-scheduled-cases true t m h = inl (refl, cc)
-scheduled-cases false true m h = inr (refl, cc)
-scheduled-cases false false m h = absurd (let no' : ◌≡◌ {A = ℕ} 0 1 = cc in omega arith)
+scheduled_cases : (s t : Bool) (m : ℕ) → cond s (Some 176) (cond t (Some 240) None) ≡ Some m → ((s ≡ true) × (m ≡ 176)) ⊎ ((t ≡ true) × (m ≡ 240))
+scheduled_cases true t m h = inl (refl, cc)
+scheduled_cases false true m h = inr (refl, cc)
+scheduled_cases false false m h = absurd (let no' : ◌≡◌ {A = ℕ} 0 1 = cc in omega arith)
 
 pub scheduled-sizes : (n m : ℕ) → scheduled n ≡ Some m → Sizes n m
 scheduled-sizes n m h =
     ⊎_elim
     (λ p. let e = eqb-true n 16 p.0 in let f = p.1 in record { least = omega arith; whole = omega arith; sized = omega arith })
     (λ p. let e = eqb-true n 32 p.0 in let f = p.1 in record { least = omega arith; whole = omega arith; sized = omega arith })
-    (scheduled-cases (n == 16) (n == 32) m h)
+    (scheduled_cases (n == 16) (n == 32) m h)
 
 -- bytes
 
@@ -115,8 +115,8 @@ unfolding changed
 octets-changed nk t i o =
     let turned = All-append (λ x. x < 256) (drop 1 t) (take 1 t) (All-drop (λ x. x < 256) 1 t o) (All-take (λ x. x < 256) 1 t o) in
     cond_both (i % nk == 0) _ _ Octets
-    (λ e. octets-xored (sub_word (rot_word t)) (rcon (i / nk)) (octets-replaced s_box s_box-lt (rot_word t) turned) (octets-rcon (i / nk)))
-    (λ e. cond_both (nat_lt 6 nk && i % nk == 4) _ _ Octets (λ f. octets-replaced s_box s_box-lt t o) (λ f. o))
+    (λ e. octets-xored (sub_word (rot_word t)) (rcon (i / nk)) (octets_replaced s_box s_box-lt (rot_word t) turned) (octets-rcon (i / nk)))
+    (λ e. cond_both (nat_lt 6 nk && i % nk == 4) _ _ Octets (λ f. octets_replaced s_box s_box-lt t o) (λ f. o))
 
 octets-word : (w : List ℕ) (i : ℕ) → Octets w → Octets (word w i)
 unfolding word
@@ -145,10 +145,10 @@ grown-none n nk work h =
     let sized = length-take-le n work h in
     sym (over-fits (take n work) work (omega arith) ∙ (ap (λ m. take n work ++ drop m work) sized ∙ take-append-drop n work))
 
-pub grown-more : (nk m : ℕ) (key old u r : List ℕ) → 1 ≤ nk → length key ≡ 4 * nk → 4 * (nk + m) + 4 ≤ length old → u ≡ over (grown nk m key) old
+pub grown_more : (nk m : ℕ) (key old u r : List ℕ) → 1 ≤ nk → length key ≡ 4 * nk → 4 * (nk + m) + 4 ≤ length old → u ≡ over (grown nk m key) old
     → r ≡ placed (4 * (nk + m)) (next_word nk u (nk + m)) u → r ≡ over (grown nk (m + 1) key) old
 unfolding grown
-grown-more nk m key old u r one e room before here =
+grown_more nk m key old u r one e room before here =
     let g = grown nk m key in
     let i = nk + m in
     let sized : length g ≡ 4 * i = length-grown nk m key one e in
@@ -159,7 +159,7 @@ grown-more nk m key old u r one e room before here =
     here
     ∙ (ap (λ v. placed (4 * i) (next_word nk v i) v) before
     ∙ (ap (λ y. placed (4 * i) y (over g old)) read
-    ∙ (placed-behind (4 * i) g next old sized (omega arith) ∙ rw add-one refl)))
+    ∙ (placed_behind (4 * i) g next old sized (omega arith) ∙ rw add-one refl)))
 
 pub expanded-over : (key old u r : List ℕ) → 16 ≤ length key → length key ≡ 4 * (length key / 4) → 16 * (length key / 4 + 7) ≤ length old → u ≡ over key old
     → r ≡ over (grown (length key / 4) (4 * (length key / 4 + 7) - length key / 4) (take (4 * (length key / 4)) u)) u → r ≡ over (expanded key) old

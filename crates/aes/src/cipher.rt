@@ -3,7 +3,7 @@ ghost use Rattle.aes.specs.Schedule.{scheduled, expanded};
 ghost use Rattle.aes.specs.Cipher.{forward, inverse};
 ghost use Rattle.std.proofs.Common.{sym, ◌∙◌, arith, rules};
 ghost use Rattle.aes.specs.Expansion.{scheduled-sizes, length-expanded, octets-expanded};
-ghost use Rattle.aes.specs.Undoing.{length-forward, length-inverse, state-forward, state-inverse, inverse-forward, forward-inverse};
+ghost use Rattle.aes.specs.Undoing.{length-forward, length-inverse, state_forward, state_inverse, inverse-forward, forward-inverse};
 
 use crate::rounds::{decipher, encipher};
 use crate::schedule::expand;
@@ -35,9 +35,9 @@ impl BlockCipher for Aes {
 
     ghost inverse_keeps_length = { λ w b e. length-inverse w b e };
 
-    ghost forward_gives_bytes = { λ w b o p e. (state-forward w b o (record { sized = e; bytes = p })).bytes };
+    ghost forward_gives_bytes = { λ w b o p e. (state_forward w b o (record { sized = e; bytes = p })).bytes };
 
-    ghost inverse_gives_bytes = { λ w b o p e. (state-inverse w b o (record { sized = e; bytes = p })).bytes };
+    ghost inverse_gives_bytes = { λ w b o p e. (state_inverse w b o (record { sized = e; bytes = p })).bytes };
 
     ghost inverse_undoes_forward = { λ w b o p e. inverse-forward w b o (record { sized = e; bytes = p }) };
 

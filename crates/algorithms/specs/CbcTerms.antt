@@ -7,7 +7,7 @@ use Rattle.std.proofs.lemmas.Bool.{le-leb, eq-eqb, cond-true}
 use Rattle.block.specs.Schedule.{room_for, written}
 use Rattle.cbc.specs.Cbc.{whole_blocks}
 use Rattle.octets.specs.Octets.{over}
-use Rattle.octets.proofs.Octets.{over-all, take-over-front}
+use Rattle.octets.proofs.Octets.{over_all, take-over-front}
 use Rattle.suite.specs.declared.CipherSizes.{CipherSizes}
 use Rattle.algorithms.specs.CbcCipher.{cbc_sizes, schedule_served, sizes_where}
 
@@ -36,9 +36,9 @@ pub served : (scheduled : ℕ → Option ℕ) (own code key : ℕ) (z : CipherSi
 served scheduled own code key z e = told (code == own) (scheduled key) z e
 
 -- a schedule that is written into the work area
-pub schedule-first : (o : Option ℕ) (n : ℕ) (w work : List ℕ) → o ≡ Some n → n ≤ 240 → length w ≡ n → 240 ≤ length work
+pub schedule_first : (o : Option ℕ) (n : ℕ) (w work : List ℕ) → o ≡ Some n → n ≤ 240 → length w ≡ n → 240 ≤ length work
     → take n (written (room_for o (length work)) w work) ≡ w
-schedule-first o n w work e short long room =
+schedule_first o n w work e short long room =
     let fits : room_for o (length work) ≡ Some n = ap (λ p. room_for p (length work)) e ∙ cond-true _ _ _ (le-leb n (length work) (omega arith)) in
     ap (λ p. take n (written p w work)) fits
     ∙ (ap (λ m. take m (over w work)) (sym long) ∙ take-over-front w work (omega arith))
@@ -51,4 +51,4 @@ turned-fitting F n work w vector block chain text out schedule long made whole i
     is
     ∙ (cond-true (whole_blocks text) _ _ (eq-eqb _ _ whole)
     ∙ (ap (λ s. F s chain text) (ap (λ m. take m work) (sub-zero n) ∙ schedule)
-    ∙ ap (λ c. F w c text) (made ∙ over-all vector block long)))
+    ∙ ap (λ c. F w c text) (made ∙ over_all vector block long)))

@@ -12,7 +12,7 @@ use Rattle.algorithms.specs.HmacIntegrity.{possible, hmac_serves}
 pub record Terms (size : ℕ) (own z : IntegritySizes) : Type 0 where
   pub same-sizes : own ≡ z
   pub key : z.key ≤ 32
-  pub some-check : 1 ≤ z.check
+  pub some_check : 1 ≤ z.check
   pub check : z.check ≤ 32
   pub digest : z.check ≤ size
 
@@ -27,7 +27,7 @@ told size true own z p e =
     record {
       same-sizes = is;
       key = leb-true _ _ a.0;
-      some-check = leb-true _ _ b.0;
+      some_check = leb-true _ _ b.0;
       check = leb-true _ _ c.0;
       digest = leb-true _ _ c.1;
     }

@@ -5,7 +5,7 @@ ghost use Rattle.cbc.specs.Cbc.{cbc_enciphered, cbc_deciphered};
 ghost use Rattle.algorithms.specs.CbcCipher.{cbc_cipher, cbc_fits, schedule_served};
 ghost use Rattle.std.proofs.lemmas.Bool.{both_ways};
 ghost use Rattle.algorithms.specs.CbcTerms.{served};
-ghost use Rattle.cbc.proofs.Inverses.{length-enciphered, length-deciphered, octets-enciphered, octets-deciphered, deciphering-undoes, enciphering-undoes};
+ghost use Rattle.cbc.proofs.Inverses.{length-enciphered, length-deciphered, octets-enciphered, octets-deciphered, deciphering_undoes, enciphering_undoes};
 
 use block::{BLOCK, BlockCipher};
 use octets::copy_over;
@@ -27,9 +27,9 @@ impl<B: BlockCipher> Cipher for Cbc<B> {
         record {
           key = B.BlockCipher.keys_are_short key t.schedule t.taken;
           vector = omega (arith, t.vector);
-          some-unit = omega (arith, t.unit);
+          some_unit = omega (arith, t.unit);
           unit = omega (arith, t.unit);
-          unit-in-clear = λ f. absurd (both_ways z.encrypts f t.encrypts);
+          unit_in_clear = λ f. absurd (both_ways z.encrypts f t.encrypts);
         } };
 
     ghost enciphering_keeps_length = { λ s code z k v x e long units.
@@ -50,7 +50,7 @@ impl<B: BlockCipher> Cipher for Cbc<B> {
         let bytes = B.BlockCipher.expanding_gives_bytes k t.schedule t.taken f.key-bytes in
         octets-enciphered (B.BlockCipher.forward w) (B.BlockCipher.forward_keeps_length w)
         (λ b. B.BlockCipher.forward_gives_bytes w b bytes) v x
-        (record { long = f.length-of-vector ∙ t.vector; bytes = f.vector-bytes })
+        (record { long = f.length_of_vector ∙ t.vector; bytes = f.vector-bytes })
         (ap (λ u. length x % u) (sym t.unit) ∙ h.units) h.bytes };
 
     ghost deciphering_gives_bytes = { λ s code z k v x f h.
@@ -59,15 +59,15 @@ impl<B: BlockCipher> Cipher for Cbc<B> {
         let bytes = B.BlockCipher.expanding_gives_bytes k t.schedule t.taken f.key-bytes in
         octets-deciphered (B.BlockCipher.inverse w) (B.BlockCipher.inverse_keeps_length w)
         (λ b. B.BlockCipher.inverse_gives_bytes w b bytes) v x
-        (record { long = f.length-of-vector ∙ t.vector; bytes = f.vector-bytes })
+        (record { long = f.length_of_vector ∙ t.vector; bytes = f.vector-bytes })
         (ap (λ u. length x % u) (sym t.unit) ∙ h.units) h.bytes };
 
     ghost deciphering_undoes_enciphering = { λ s code z k v x f h.
         let t = served B.BlockCipher.scheduled s.code code (length k) z f.told in
         let w = B.BlockCipher.expanded k in
         let bytes = B.BlockCipher.expanding_gives_bytes k t.schedule t.taken f.key-bytes in
-        deciphering-undoes (B.BlockCipher.forward w) (B.BlockCipher.inverse w) v x
-        (record { long = f.length-of-vector ∙ t.vector; bytes = f.vector-bytes })
+        deciphering_undoes (B.BlockCipher.forward w) (B.BlockCipher.inverse w) v x
+        (record { long = f.length_of_vector ∙ t.vector; bytes = f.vector-bytes })
         (ap (λ u. length x % u) (sym t.unit) ∙ h.units) h.bytes (B.BlockCipher.forward_keeps_length w)
         (λ b. B.BlockCipher.forward_gives_bytes w b bytes) (λ b. B.BlockCipher.inverse_undoes_forward w b bytes) };
 
@@ -75,8 +75,8 @@ impl<B: BlockCipher> Cipher for Cbc<B> {
         let t = served B.BlockCipher.scheduled s.code code (length k) z f.told in
         let w = B.BlockCipher.expanded k in
         let bytes = B.BlockCipher.expanding_gives_bytes k t.schedule t.taken f.key-bytes in
-        enciphering-undoes (B.BlockCipher.forward w) (B.BlockCipher.inverse w) v x
-        (record { long = f.length-of-vector ∙ t.vector; bytes = f.vector-bytes })
+        enciphering_undoes (B.BlockCipher.forward w) (B.BlockCipher.inverse w) v x
+        (record { long = f.length_of_vector ∙ t.vector; bytes = f.vector-bytes })
         (ap (λ u. length x % u) (sym t.unit) ∙ h.units) h.bytes (B.BlockCipher.inverse_keeps_length w)
         (λ b. B.BlockCipher.inverse_gives_bytes w b bytes) (λ b. B.BlockCipher.forward_undoes_inverse w b bytes) };
 

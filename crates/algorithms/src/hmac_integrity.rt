@@ -27,7 +27,7 @@ impl<H: Hash> Integrity for HmacIntegrity<H> {
 
     ghost integrity_sizes_are_bounded = { λ s code z e.
         let t = served H.Hash.digest H.Hash.block H.Hash.size s.code s.sizes code z e in
-        record { key = t.key; some-check = t.some-check; check = t.check } };
+        record { key = t.key; some_check = t.some_check; check = t.check } };
 
     ghost check_value_has_its_size = { λ s code z key message e.
         let t = served H.Hash.digest H.Hash.block H.Hash.size s.code s.sizes code z e in

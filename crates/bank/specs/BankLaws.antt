@@ -25,11 +25,11 @@ module _ (a b : Meaning) where
   abbrev served : (t : Triple) (g : Given) → Served (bank a b) t g → Served (answering (a.serves t) a b) t g
   served t g s = record { sizes = s.sizes; told = serves t ∙ s.told; fitting = s.fitting }
 
-  pub sizes-are-bounded : SizesAreBounded a → SizesAreBounded b → SizesAreBounded (bank a b)
-  sizes-are-bounded la lb t z told = kept SizesAreBounded la lb (a.serves t) t z (serves t ∙ told)
+  pub sizes_are_bounded : SizesAreBounded a → SizesAreBounded b → SizesAreBounded (bank a b)
+  sizes_are_bounded la lb t z told = kept SizesAreBounded la lb (a.serves t) t z (serves t ∙ told)
 
-  pub sealing-adds-the-check-value : SealingAddsTheCheckValue a → SealingAddsTheCheckValue b → SealingAddsTheCheckValue (bank a b)
-  sealing-adds-the-check-value la lb t z g x told = kept SealingAddsTheCheckValue la lb (a.serves t) t z g x (serves t ∙ told)
+  pub sealing_adds_the_check_value : SealingAddsTheCheckValue a → SealingAddsTheCheckValue b → SealingAddsTheCheckValue (bank a b)
+  sealing_adds_the_check_value la lb t z g x told = kept SealingAddsTheCheckValue la lb (a.serves t) t z g x (serves t ∙ told)
 
   pub sealing-gives-bytes : SealingGivesBytes a → SealingGivesBytes b → SealingGivesBytes (bank a b)
   sealing-gives-bytes la lb t g s = kept SealingGivesBytes la lb (a.serves t) t g (served t g s)
@@ -37,8 +37,8 @@ module _ (a b : Meaning) where
   pub opening-undoes-sealing : OpeningUndoesSealing a → OpeningUndoesSealing b → OpeningUndoesSealing (bank a b)
   opening-undoes-sealing la lb t g s = kept OpeningUndoesSealing la lb (a.serves t) t g (served t g s)
 
-  pub what-opens-was-sealed : WhatOpensWasSealed a → WhatOpensWasSealed b → WhatOpensWasSealed (bank a b)
-  what-opens-was-sealed la lb t g s = kept WhatOpensWasSealed la lb (a.serves t) t g (served t g s)
+  pub what_opens_was_sealed : WhatOpensWasSealed a → WhatOpensWasSealed b → WhatOpensWasSealed (bank a b)
+  what_opens_was_sealed la lb t g s = kept WhatOpensWasSealed la lb (a.serves t) t g (served t g s)
 
-  pub mismatch-when-no-text-seals : MismatchWhenNoTextSeals a → MismatchWhenNoTextSeals b → MismatchWhenNoTextSeals (bank a b)
-  mismatch-when-no-text-seals la lb t g s = kept MismatchWhenNoTextSeals la lb (a.serves t) t g (served t g s)
+  pub mismatch_when_no_text_seals : MismatchWhenNoTextSeals a → MismatchWhenNoTextSeals b → MismatchWhenNoTextSeals (bank a b)
+  mismatch_when_no_text_seals la lb t g s = kept MismatchWhenNoTextSeals la lb (a.serves t) t g (served t g s)

@@ -15,12 +15,12 @@ impl<A: Suite, B: Suite> Suite for Bank<A, B> {
     ghost meaning = { λ s. bank (A.Suite.meaning s.first) (B.Suite.meaning s.second) };
 
     ghost sizes_are_bounded = { λ s.
-        laws.sizes-are-bounded (A.Suite.meaning s.first) (B.Suite.meaning s.second)
+        laws.sizes_are_bounded (A.Suite.meaning s.first) (B.Suite.meaning s.second)
         (A.Suite.sizes_are_bounded s.first)
         (B.Suite.sizes_are_bounded s.second) };
 
     ghost sealing_adds_the_check_value = { λ s.
-        laws.sealing-adds-the-check-value (A.Suite.meaning s.first) (B.Suite.meaning s.second)
+        laws.sealing_adds_the_check_value (A.Suite.meaning s.first) (B.Suite.meaning s.second)
         (A.Suite.sealing_adds_the_check_value s.first)
         (B.Suite.sealing_adds_the_check_value s.second) };
 
@@ -35,12 +35,12 @@ impl<A: Suite, B: Suite> Suite for Bank<A, B> {
         (B.Suite.opening_undoes_sealing s.second) };
 
     ghost what_opens_was_sealed = { λ s.
-        laws.what-opens-was-sealed (A.Suite.meaning s.first) (B.Suite.meaning s.second)
+        laws.what_opens_was_sealed (A.Suite.meaning s.first) (B.Suite.meaning s.second)
         (A.Suite.what_opens_was_sealed s.first)
         (B.Suite.what_opens_was_sealed s.second) };
 
     ghost mismatch_when_no_text_seals = { λ s.
-        laws.mismatch-when-no-text-seals (A.Suite.meaning s.first) (B.Suite.meaning s.second)
+        laws.mismatch_when_no_text_seals (A.Suite.meaning s.first) (B.Suite.meaning s.second)
         (A.Suite.mismatch_when_no_text_seals s.first)
         (B.Suite.mismatch_when_no_text_seals s.second) };
 

@@ -4,7 +4,7 @@ use Rattle.std.proofs.Common.{◌≡◌, ℕ, zero, suc, ◌+◌, ◌-◌, ◌*�
 use Rattle.std.proofs.ByRecursion.{All-append, All-take, All-drop}
 use Rattle.std.proofs.lemmas.List.{length-append, length-take-le, length-drop, nil_from_length, take-append-drop, take_at, drop_at}
 use Rattle.block.specs.Xor.{xored}
-use Rattle.block.proofs.Sums.{length-xored, octets-xored, xored-twice}
+use Rattle.block.proofs.Sums.{length-xored, octets-xored, xored_twice}
 use Rattle.octets.specs.Octets.{Octets}
 use Rattle.cbc.specs.Cbc.{enciphered_blocks, deciphered_blocks, cbc_enciphered, cbc_deciphered}
 
@@ -22,14 +22,14 @@ abbrev walked : Turn → Turn → ℕ → List ℕ → List ℕ → List ℕ
 walked o w zero v x = []
 walked o w (suc n) v x = o v (take 16 x) ++ walked o w n (w v (take 16 x)) (drop 16 x)
 
-first-long : (n : ℕ) (x : List ℕ) → length x ≡ 16 * suc n → length (take 16 x) ≡ 16
-first-long n x e = length-take-le 16 x (omega arith)
+first_long : (n : ℕ) (x : List ℕ) → length x ≡ 16 * suc n → length (take 16 x) ≡ 16
+first_long n x e = length-take-le 16 x (omega arith)
 
 rest-long : (n : ℕ) (x : List ℕ) → length x ≡ 16 * suc n → length (drop 16 x) ≡ 16 * n
 rest-long n x e = length-drop 16 x ∙ omega arith
 
 first_block : (n : ℕ) (x : List ℕ) → length x ≡ 16 * suc n → Octets x → Block (take 16 x)
-first_block n x e h = record { long = first-long n x e; bytes = All-take (λ y. y < 256) 16 x h }
+first_block n x e h = record { long = first_long n x e; bytes = All-take (λ y. y < 256) 16 x h }
 
 -- a turn gives 16 values for 16
 abbrev Keeps : Turn → Type 0
@@ -44,8 +44,8 @@ module _ (o w : Turn) where
   walked-length ko kw zero v x ev e = refl
   walked-length ko kw (suc n) v x ev e =
       let b = take 16 x in
-      let first = ko v b ev (first-long n x e) in
-      let rest = walked-length ko kw n (w v b) (drop 16 x) (kw v b ev (first-long n x e)) (rest-long n x e) in
+      let first = ko v b ev (first_long n x e) in
+      let rest = walked-length ko kw n (w v b) (drop 16 x) (kw v b ev (first_long n x e)) (rest-long n x e) in
       length-append (o v b) (walked o w n (w v b) (drop 16 x)) ∙ omega arith
 
   walked-bytes : Gives o → Gives w → (n : ℕ) (v x : List ℕ) → Block v → length x ≡ 16 * n → Octets x → Octets (walked o w n v x)
@@ -56,11 +56,11 @@ module _ (o w : Turn) where
       (walked-bytes go gw n (w v (take 16 x)) (drop 16 x) (gw v (take 16 x) bv b) (rest-long n x e) (All-drop (λ y. y < 256) 16 x h))
 
   -- p undoes o where it goes on with the same chain
-  walk-back : (p u : Turn) → Gives o → Gives w
+  walk_back : (p u : Turn) → Gives o → Gives w
       → ((v b : List ℕ) → Block v → Block b → p v (o v b) ≡ b) → ((v b : List ℕ) → Block v → Block b → u v (o v b) ≡ w v b)
       → (n : ℕ) (v x : List ℕ) → Block v → length x ≡ 16 * n → Octets x → walked p u n v (walked o w n v x) ≡ x
-  walk-back p u go gw back chain zero v x bv e h = sym (nil_from_length x e)
-  walk-back p u go gw back chain (suc n) v x bv e h =
+  walk_back p u go gw back chain zero v x bv e h = sym (nil_from_length x e)
+  walk_back p u go gw back chain (suc n) v x bv e h =
       let a = take 16 x in
       let b = first_block n x e h in
       let y = walked o w n (w v a) (drop 16 x) in
@@ -72,7 +72,7 @@ module _ (o w : Turn) where
       ∙ (ap (λ z. z ++ walked p u n (u v (o v a)) y) (back v a bv b)
       ∙ (ap (λ z. a ++ walked p u n z y) (chain v a bv b)
       ∙ (ap (λ z. a ++ z)
-      (walk-back p u go gw back chain n (w v a) (drop 16 x) (gw v a bv b) (rest-long n x e) (All-drop (λ y. y < 256) 16 x h))
+      (walk_back p u go gw back chain n (w v a) (drop 16 x) (gw v a bv b) (rest-long n x e) (All-drop (λ y. y < 256) 16 x h))
       ∙ take-append-drop 16 x))))
 
 -- the two directions as such walks
@@ -154,26 +154,26 @@ module _ (f : List ℕ → List ℕ) (keeps : KeepsBlock f) (bytes : BytesForByt
 
 -- each undoes the other
 module _ (ciph inv : List ℕ → List ℕ) (v x : List ℕ) (p : Block v) (e : length x % 16 ≡ 0) (h : Octets x) where
-  pub deciphering-undoes : KeepsBlock ciph → BytesForBytes ciph → Undoes inv ciph → cbc_deciphered inv v (cbc_enciphered ciph v x) ≡ x
-  deciphering-undoes keeps bytes undoes =
+  pub deciphering_undoes : KeepsBlock ciph → BytesForBytes ciph → Undoes inv ciph → cbc_deciphered inv v (cbc_enciphered ciph v x) ≡ x
+  deciphering_undoes keeps bytes undoes =
       let n = length x / 16 in
       let y = cbc_enciphered ciph v x in
       let k = gives-enciphered ciph keeps bytes in
       ap (λ m. deciphered_blocks inv (m / 16) v y) (length-enciphered ciph keeps v x p.long e)
       ∙ (deciphered-walked inv n v y
       ∙ (ap (walked (deciphers inv) itself n v) (enciphered-walked ciph n v x)
-      ∙ walk-back (enciphers ciph) (enciphers ciph) (deciphers inv) itself k k
-      (λ u b q r. let s = sum-block b u r q in ap (λ z. xored z u) (undoes (xored b u) s.bytes s.long) ∙ xored-twice b u)
+      ∙ walk_back (enciphers ciph) (enciphers ciph) (deciphers inv) itself k k
+      (λ u b q r. let s = sum-block b u r q in ap (λ z. xored z u) (undoes (xored b u) s.bytes s.long) ∙ xored_twice b u)
       (λ u b q r. refl) n v x p (whole x e) h))
 
-  pub enciphering-undoes : KeepsBlock inv → BytesForBytes inv → Undoes ciph inv → cbc_enciphered ciph v (cbc_deciphered inv v x) ≡ x
-  enciphering-undoes keeps bytes undoes =
+  pub enciphering_undoes : KeepsBlock inv → BytesForBytes inv → Undoes ciph inv → cbc_enciphered ciph v (cbc_deciphered inv v x) ≡ x
+  enciphering_undoes keeps bytes undoes =
       let n = length x / 16 in
       let y = cbc_deciphered inv v x in
       let again : (u b : List ℕ) → Block u → Block b → ciph (xored (xored (inv b) u) u) ≡ b =
-      λ u b q r. ap ciph (xored-twice (inv b) u) ∙ undoes b r.bytes r.long in
+      λ u b q r. ap ciph (xored_twice (inv b) u) ∙ undoes b r.bytes r.long in
       ap (λ m. enciphered_blocks ciph (m / 16) v y) (length-deciphered inv keeps v x p.long e)
       ∙ (enciphered-walked ciph n v y
       ∙ (ap (walked (enciphers ciph) (enciphers ciph) n v) (deciphered-walked inv n v x)
-      ∙ walk-back (deciphers inv) itself (enciphers ciph) (enciphers ciph) (gives-deciphered inv keeps bytes) gives-itself again again n v x p
+      ∙ walk_back (deciphers inv) itself (enciphers ciph) (enciphers ciph) (gives-deciphered inv keeps bytes) gives-itself again again n v x p
       (whole x e) h))

@@ -18,8 +18,8 @@ module _ (F L : Blocks) (n : ℕ) (first all : List ℕ) where
     pub text : take (16 * i) t ++ F (n - i) c (drop (16 * i) t) ≡ F n first all
     pub last : L (n - i) c (drop (16 * i) t) ≡ L n first all
 
-  going-starts : length first ≡ 16 → Going 0 first all
-  going-starts e = record {
+  going_starts : length first ≡ 16 → Going 0 first all
+  going_starts e = record {
     one_block = e;
     text = ap (λ m. F m first all) (sub-zero n);
     last = ap (λ m. L m first all) (sub-zero n);
@@ -49,9 +49,9 @@ module _ (F L : Blocks) (n : ℕ) (first all : List ℕ) where
         last = ap (L m d) rest ∙ (sym (last_step m) ∙ (ap (λ j. L j c x) count ∙ so.last));
       }
 
-  going-ends : (i : ℕ) (c t : List ℕ) → i ≡ n → length t ≡ 16 * n → F 0 c [] ≡ [] → L 0 c [] ≡ c → Going i c t
+  going_ends : (i : ℕ) (c t : List ℕ) → i ≡ n → length t ≡ 16 * n → F 0 c [] ≡ [] → L 0 c [] ≡ c → Going i c t
       → (t ≡ F n first all) × (c ≡ L n first all)
-  going-ends i c t all_done e none same so =
+  going_ends i c t all_done e none same so =
       let front : take (16 * i) t ≡ t = take_all (16 * i) t (omega arith) in
       let rest : drop (16 * i) t ≡ [] = drop_all (16 * i) t (omega arith) in
       let count : n - i ≡ 0 = omega arith in (
@@ -74,13 +74,13 @@ module _ (ciph : List ℕ → List ℕ) (n : ℕ) (first all : List ℕ) where
   abbrev pub Enciphering : ℕ → List ℕ → List ℕ → Type 0
   Enciphering = Going (enciphered_blocks ciph) last_enciphered n first all
 
-  pub enciphering-starts : length first ≡ 16 → Enciphering 0 first all
-  enciphering-starts e = going-starts (enciphered_blocks ciph) last_enciphered n first all e
+  pub enciphering_starts : length first ≡ 16 → Enciphering 0 first all
+  enciphering_starts e = going_starts (enciphered_blocks ciph) last_enciphered n first all e
 
-  pub enciphering-more : (i k : ℕ) (c d t b : List ℕ) → i < n → length t ≡ 16 * n → k ≡ 16 → length b ≡ 16
+  pub enciphering_more : (i k : ℕ) (c d t b : List ℕ) → i < n → length t ≡ 16 * n → k ≡ 16 → length b ≡ 16
       → b ≡ ciph (xored (take k (drop (16 * i) t)) c) → d ≡ ciph (xored (take k (drop (16 * i) t)) c)
       → Enciphering i c t → Enciphering (i + 1) d (put_mid (16 * i) k t b)
-  enciphering-more i k c d t b h e f long is next so =
+  enciphering_more i k c d t b h e f long is next so =
       let x = drop (16 * i) t in
       let block : ciph (xored (take 16 x) c) ≡ b = ap (λ j. ciph (xored (take j x) c)) (sym f) ∙ sym is in
       let chain : b ≡ d = is ∙ sym next in
@@ -92,10 +92,10 @@ module _ (ciph : List ℕ → List ℕ) (n : ℕ) (first all : List ℕ) where
       ∙ ap (λ z. last_block z (enciphered_blocks ciph m d (drop 16 x))) chain))
       so
 
-  pub enciphering-ends : (i : ℕ) (c t : List ℕ) → i ≡ n → length t ≡ 16 * n → Enciphering i c t
+  pub enciphering_ends : (i : ℕ) (c t : List ℕ) → i ≡ n → length t ≡ 16 * n → Enciphering i c t
       → (t ≡ enciphered_blocks ciph n first all) × (c ≡ last_enciphered n first all)
-  enciphering-ends i c t h e so =
-      going-ends (enciphered_blocks ciph) last_enciphered n first all i c t h e refl (append-nil c) so
+  enciphering_ends i c t h e so =
+      going_ends (enciphered_blocks ciph) last_enciphered n first all i c t h e refl (append-nil c) so
 
 module _ (inv : List ℕ → List ℕ) (n : ℕ) (first all : List ℕ) where
   abbrev last_given : Blocks
@@ -104,13 +104,13 @@ module _ (inv : List ℕ → List ℕ) (n : ℕ) (first all : List ℕ) where
   abbrev pub Deciphering : ℕ → List ℕ → List ℕ → Type 0
   Deciphering = Going (deciphered_blocks inv) last_given n first all
 
-  pub deciphering-starts : length first ≡ 16 → Deciphering 0 first all
-  deciphering-starts e = going-starts (deciphered_blocks inv) last_given n first all e
+  pub deciphering_starts : length first ≡ 16 → Deciphering 0 first all
+  deciphering_starts e = going_starts (deciphered_blocks inv) last_given n first all e
 
-  pub deciphering-more : (i k : ℕ) (c d t b : List ℕ) → i < n → length t ≡ 16 * n → k ≡ 16 → length b ≡ 16 → length d ≡ 16
+  pub deciphering_more : (i k : ℕ) (c d t b : List ℕ) → i < n → length t ≡ 16 * n → k ≡ 16 → length b ≡ 16 → length d ≡ 16
       → b ≡ xored (inv (take k (drop (16 * i) t))) c → d ≡ take k (drop (16 * i) t)
       → Deciphering i c t → Deciphering (i + 1) d (put_mid (16 * i) k t b)
-  deciphering-more i k c d t b h e f long long-d is next so =
+  deciphering_more i k c d t b h e f long long-d is next so =
       let x = drop (16 * i) t in
       let chain : take 16 x ≡ d = ap (λ j. take j x) (sym f) ∙ sym next in
       let block : xored (inv (take 16 x)) c ≡ b = ap (λ j. xored (inv (take j x)) c) (sym f) ∙ sym is in
@@ -120,7 +120,7 @@ module _ (inv : List ℕ → List ℕ) (n : ℕ) (first all : List ℕ) where
       (λ m. ap (last_block c) split ∙ last_more c d (drop 16 x) so.one_block long-d)
       so
 
-  pub deciphering-ends : (i : ℕ) (c t : List ℕ) → i ≡ n → length t ≡ 16 * n → Deciphering i c t
+  pub deciphering_ends : (i : ℕ) (c t : List ℕ) → i ≡ n → length t ≡ 16 * n → Deciphering i c t
       → (t ≡ deciphered_blocks inv n first all) × (c ≡ last_block first all)
-  deciphering-ends i c t h e so =
-      going-ends (deciphered_blocks inv) last_given n first all i c t h e refl (append-nil c) so
+  deciphering_ends i c t h e so =
+      going_ends (deciphered_blocks inv) last_given n first all i c t h e refl (append-nil c) so

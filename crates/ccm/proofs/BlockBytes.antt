@@ -6,10 +6,10 @@ use Rattle.std.proofs.lemmas.Bool.{ne_eqb, lt-ltb, le-ltb, cond-true, cond-false
 use Rattle.octets.specs.Numbers.{big_endian}
 use Rattle.octets.specs.Octets.{over, placed}
 use Rattle.octets.proofs.BigEndian.{length-big_endian, big_endian-cons}
-use Rattle.octets.proofs.Octets.{placed-fits, placed-behind, over-fits}
+use Rattle.octets.proofs.Octets.{placed-fits, placed_behind, over-fits}
 use Rattle.ccm.specs.Ccm.{length_size, counter_block, encoded_length}
 use Rattle.ccm.specs.Parts.{headed, associated}
-use Rattle.ccm.proofs.Blockwise.{take_min, drop_min, take_behind, drop-behind}
+use Rattle.ccm.proofs.Blockwise.{take_min, drop_min, take_behind, drop_behind}
 
 pub length-headed : (b i : ℕ) (nonce : List ℕ) → length nonce ≤ 15 → length (headed b nonce i) ≡ 16
 length-headed b i nonce h = simp (length-append, length-big_endian) (omega arith)
@@ -30,9 +30,9 @@ set_first b (x ∷ []) ys h = refl
 set_first b (x ∷ (y ∷ xs)) ys h = absurd (omega arith)
 
 -- the number at the end of a block, then the nonce, then the first byte
-pub headed-is : (b i : ℕ) (nonce block : List ℕ) → length block ≡ 16 → 7 ≤ length nonce → length nonce ≤ 13
+pub headed_is : (b i : ℕ) (nonce block : List ℕ) → length block ≡ 16 → 7 ≤ length nonce → length nonce ≤ 13
     → set (placed 1 nonce (placed 8 (big_endian 8 i) block)) 0 b ≡ headed b nonce i
-headed-is b i nonce block h l u =
+headed_is b i nonce block h l u =
     let eight = length-big_endian 8 i in
     let made = take 8 block ++ big_endian 8 i in
     let front : length (take 8 block) ≡ 8 = simp length-take (omega arith) in
@@ -57,9 +57,9 @@ pub short-length : (n : ℕ) → 1 ≤ n → n < 0xff00 → encoded_length n ≡
 unfolding encoded_length
 short-length n h l = cond-false (eqb n 0) _ _ (ne_eqb n 0 (λ z. omega arith)) ∙ cond-true (ltb n 0xff00) _ _ (lt-ltb n 0xff00 l)
 
-pub middle-length : (n : ℕ) → 0xff00 ≤ n → n < 2 ^ 32 → encoded_length n ≡ 0xff ∷ 0xfe ∷ big_endian 4 n
+pub middle_length : (n : ℕ) → 0xff00 ≤ n → n < 2 ^ 32 → encoded_length n ≡ 0xff ∷ 0xfe ∷ big_endian 4 n
 unfolding encoded_length
-middle-length n h l =
+middle_length n h l =
     cond-false (eqb n 0) _ _ (ne_eqb n 0 (λ z. omega arith))
     ∙ (cond-false (ltb n 0xff00) _ _ (le-ltb n 0xff00 h) ∙ cond-true (ltb n (2 ^ 32)) _ _ (lt-ltb n (2 ^ 32) l))
 
@@ -69,21 +69,21 @@ long-length n h =
     cond-false (eqb n 0) _ _ (ne_eqb n 0 (λ z. omega arith))
     ∙ (cond-false (ltb n 0xff00) _ _ (le-ltb n 0xff00 (omega arith)) ∙ cond-false (ltb n (2 ^ 32)) _ _ (le-ltb n (2 ^ 32) h))
 
-pub placed-start : (xs ys : List ℕ) → length xs ≤ length ys → placed 0 xs ys ≡ over xs ys
-placed-start xs ys h = placed-fits 0 xs ys (omega arith) ∙ (ap (λ n. xs ++ drop n ys) (zero-add (length xs)) ∙ sym (over-fits xs ys h))
+pub placed_start : (xs ys : List ℕ) → length xs ≤ length ys → placed 0 xs ys ≡ over xs ys
+placed_start xs ys h = placed-fits 0 xs ys (omega arith) ∙ (ap (λ n. xs ++ drop n ys) (zero-add (length xs)) ∙ sym (over-fits xs ys h))
 
-over-two : (a b : ℕ) (ys : List ℕ) → 2 ≤ length ys → set (set ys 0 a) 1 b ≡ over (a ∷ b ∷ []) ys
-over-two a b [] h = absurd (omega arith)
-over-two a b (x ∷ []) h = absurd (omega arith)
-over-two a b (x ∷ (y ∷ ys)) h = sym (over-fits (a ∷ b ∷ []) (x ∷ (y ∷ ys)) h)
+over_two : (a b : ℕ) (ys : List ℕ) → 2 ≤ length ys → set (set ys 0 a) 1 b ≡ over (a ∷ b ∷ []) ys
+over_two a b [] h = absurd (omega arith)
+over_two a b (x ∷ []) h = absurd (omega arith)
+over_two a b (x ∷ (y ∷ ys)) h = sym (over-fits (a ∷ b ∷ []) (x ∷ (y ∷ ys)) h)
 
 -- two bytes at the start, and others behind them
-pub placed-two : (a b : ℕ) (xs ys : List ℕ) → 2 + length xs ≤ length ys → placed 2 xs (set (set ys 0 a) 1 b) ≡ over (a ∷ b ∷ xs) ys
-placed-two a b xs ys h = ap (placed 2 xs) (over-two a b ys (omega arith)) ∙ placed-behind 2 (a ∷ b ∷ []) xs ys refl h
+pub placed_two : (a b : ℕ) (xs ys : List ℕ) → 2 + length xs ≤ length ys → placed 2 xs (set (set ys 0 a) 1 b) ≡ over (a ∷ b ∷ xs) ys
+placed_two a b xs ys h = ap (placed 2 xs) (over_two a b ys (omega arith)) ∙ placed_behind 2 (a ∷ b ∷ []) xs ys refl h
 
-length-encoded : (n : ℕ) → length (encoded_length n) ≤ 10
+length_encoded : (n : ℕ) → length (encoded_length n) ≤ 10
 unfolding encoded_length
-length-encoded n =
+length_encoded n =
     cond_both (eqb n 0) _ _ (λ (xs : List ℕ). length xs ≤ 10) (λ h. omega arith)
     (λ h. cond_both (ltb n 0xff00) _ _ (λ (xs : List ℕ). length xs ≤ 10) (λ h. omega arith)
     (λ h. cond_both (ltb n (2 ^ 32)) _ _ (λ (xs : List ℕ). length xs ≤ 10) (λ h. omega arith) (λ h. omega arith)))
@@ -94,24 +94,24 @@ pub associated-block : (n k : ℕ) (aad block made : List ℕ) → length block 
     → made ≡ over (take 16 (associated aad)) block
 associated-block n k aad block made h kl nk is =
     let enc = encoded_length (length aad) in
-    let small = length-encoded (length aad) in
+    let small = length_encoded (length aad) in
     let part : take (n - 0) aad ≡ take n aad = ap (λ m. take m aad) (sub-zero n) in
     let fits : k + length (take n aad) ≤ length block = simp length-take (omega arith) in
     is
     ∙ (ap (λ z. placed k z (over enc block)) part
-    ∙ (placed-behind k enc (take n aad) block (sym kl) fits
+    ∙ (placed_behind k enc (take n aad) block (sym kl) fits
     ∙ ap (λ z. over z block) (ap (λ z. enc ++ z) (take_min (16 - k) n aad nk ∙ ap (λ m. take (16 - m) aad) kl) ∙ sym (take_behind 16 enc aad (omega arith)))))
 
 pub associated-rest : (n k : ℕ) (aad : List ℕ) → k ≡ length (encoded_length (length aad)) → n ≡ min (16 - k) (length aad)
     → drop 16 (associated aad) ≡ drop n aad
 associated-rest n k aad kl nk =
     let enc = encoded_length (length aad) in
-    let small = length-encoded (length aad) in
-    drop-behind 16 enc aad (omega arith) ∙ (ap (λ m. drop (16 - m) aad) (sym kl) ∙ sym (drop_min (16 - k) n aad nk))
+    let small = length_encoded (length aad) in
+    drop_behind 16 enc aad (omega arith) ∙ (ap (λ m. drop (16 - m) aad) (sym kl) ∙ sym (drop_min (16 - k) n aad nk))
 
 pub nothing-associated : (aad : List ℕ) → length aad ≡ 0 → associated aad ≡ []
 unfolding encoded_length
 nothing-associated aad h = ap associated (nil_from_length aad h)
 
-pub something-associated : (aad : List ℕ) → 0 < length aad → 0 < length (associated aad)
-something-associated aad h = simp length-append (omega arith)
+pub something_associated : (aad : List ℕ) → 0 < length aad → 0 < length (associated aad)
+something_associated aad h = simp length-append (omega arith)

@@ -16,11 +16,11 @@ drop_min k n xs h =
     ⊎_elim (λ l. ap (λ m. drop m xs) (omega arith)) (λ l. drop_all n xs (omega arith) ∙ sym (drop_all k xs l)) (cases_lt k (length xs))
 
 -- the part `xs[a..a + n]`, and what lies behind it
-pub part-is : (a n : ℕ) (xs : List ℕ) → n ≡ min 16 (length xs - a) → take (a + n - a) (drop a xs) ≡ take 16 (drop a xs)
-part-is a n xs h = ap (λ m. take m (drop a xs)) (omega arith) ∙ take_min 16 n (drop a xs) (h ∙ ap (min 16) (sym (length-drop a xs)))
+pub part_is : (a n : ℕ) (xs : List ℕ) → n ≡ min 16 (length xs - a) → take (a + n - a) (drop a xs) ≡ take 16 (drop a xs)
+part_is a n xs h = ap (λ m. take m (drop a xs)) (omega arith) ∙ take_min 16 n (drop a xs) (h ∙ ap (min 16) (sym (length-drop a xs)))
 
-pub behind-is : (a n : ℕ) (xs : List ℕ) → n ≡ min 16 (length xs - a) → drop (a + n) xs ≡ drop 16 (drop a xs)
-behind-is a n xs h = sym (drop-drop n a xs) ∙ drop_min 16 n (drop a xs) (h ∙ ap (min 16) (sym (length-drop a xs)))
+pub behind_is : (a n : ℕ) (xs : List ℕ) → n ≡ min 16 (length xs - a) → drop (a + n) xs ≡ drop 16 (drop a xs)
+behind_is a n xs h = sym (drop-drop n a xs) ∙ drop_min 16 n (drop a xs) (h ∙ ap (min 16) (sym (length-drop a xs)))
 
 -- n elements of two lists in a row, where the first has no more
 pub take_behind : (n : ℕ) (xs ys : List ℕ) → length xs ≤ n → take n (xs ++ ys) ≡ xs ++ take (n - length xs) ys
@@ -28,7 +28,7 @@ take_behind n [] ys h = ap (λ m. take m ys) (sym (sub-zero n))
 take_behind zero (x ∷ xs) ys h = absurd (omega arith)
 take_behind (suc n) (x ∷ xs) ys h = ap (λ zs. x ∷ zs) (take_behind n xs ys (omega arith) ∙ ap (λ m. xs ++ take m ys) (omega arith))
 
-pub drop-behind : (n : ℕ) (xs ys : List ℕ) → length xs ≤ n → drop n (xs ++ ys) ≡ drop (n - length xs) ys
-drop-behind n [] ys h = ap (λ m. drop m ys) (sym (sub-zero n))
-drop-behind zero (x ∷ xs) ys h = absurd (omega arith)
-drop-behind (suc n) (x ∷ xs) ys h = drop-behind n xs ys (omega arith) ∙ ap (λ m. drop m ys) (omega arith)
+pub drop_behind : (n : ℕ) (xs ys : List ℕ) → length xs ≤ n → drop n (xs ++ ys) ≡ drop (n - length xs) ys
+drop_behind n [] ys h = ap (λ m. drop m ys) (sym (sub-zero n))
+drop_behind zero (x ∷ xs) ys h = absurd (omega arith)
+drop_behind (suc n) (x ∷ xs) ys h = drop_behind n xs ys (omega arith) ∙ ap (λ m. drop m ys) (omega arith)

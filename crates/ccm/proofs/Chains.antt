@@ -8,7 +8,7 @@ use Rattle.block.specs.Xor.{xored}
 use Rattle.block.proofs.Sums.{xored-nil}
 use Rattle.ccm.specs.Ccm.{whole, chained, blocks, first_block, tag, counter_block, check_value}
 use Rattle.ccm.specs.Parts.{taken_in, associated, last_value, whole_check}
-use Rattle.ccm.proofs.Blockwise.{parts-suc, part-is, behind-is}
+use Rattle.ccm.proofs.Blockwise.{parts-suc, part_is, behind_is}
 use Rattle.ccm.proofs.Masks.{take-xored}
 
 -- zeros add nothing
@@ -74,9 +74,9 @@ module _ (e : List ℕ → List ℕ) where
   taken_in-nil x = taken_in-parts x []
 
   -- one block more
-  taken_in-more : (x xs : List ℕ) → 0 < length xs → taken_in e x xs ≡ taken_in e (e (xored x (take 16 xs))) (drop 16 xs)
+  taken_in_more : (x xs : List ℕ) → 0 < length xs → taken_in e x xs ≡ taken_in e (e (xored x (take 16 xs))) (drop 16 xs)
   unfolding chained
-  taken_in-more x xs h =
+  taken_in_more x xs h =
       taken_in-parts x xs
       ∙ (ap (λ n. chained e n x xs) (parts-suc (length xs) h)
       ∙ (ap (λ n. chained e ((n + 15) / 16) (e (xored x (take 16 xs))) (drop 16 xs)) (sym (length-drop 16 xs))
@@ -86,12 +86,12 @@ module _ (e : List ℕ → List ℕ) where
   pub taken_step : (a n : ℕ) (x y xs all : List ℕ) → n ≡ min 16 (length xs - a) → a < length xs
       → y ≡ e (xored x (take (a + n - a) (drop a xs))) → taken_in e x (drop a xs) ≡ all → taken_in e y (drop (a + n) xs) ≡ all
   taken_step a n x y xs all h l is so =
-      ap (taken_in e y) (behind-is a n xs h)
-      ∙ (ap (λ z. taken_in e z (drop 16 (drop a xs))) (is ∙ ap (λ z. e (xored x z)) (part-is a n xs h))
-      ∙ (sym (taken_in-more x (drop a xs) (simp length-drop (omega arith))) ∙ so))
+      ap (taken_in e y) (behind_is a n xs h)
+      ∙ (ap (λ z. taken_in e z (drop 16 (drop a xs))) (is ∙ ap (λ z. e (xored x z)) (part_is a n xs h))
+      ∙ (sym (taken_in_more x (drop a xs) (simp length-drop (omega arith))) ∙ so))
 
-  pub taken-all : (a : ℕ) (x xs all : List ℕ) → length xs ≤ a → taken_in e x (drop a xs) ≡ all → x ≡ all
-  taken-all a x xs all h so = sym (taken_in-nil x) ∙ (ap (taken_in e x) (sym (drop_all a xs h)) ∙ so)
+  pub taken_all : (a : ℕ) (x xs all : List ℕ) → length xs ≤ a → taken_in e x (drop a xs) ≡ all → x ≡ all
+  taken_all a x xs all h so = sym (taken_in-nil x) ∙ (ap (taken_in e x) (sym (drop_all a xs h)) ∙ so)
 
   tag_is : (t : ℕ) (nonce aad text : List ℕ) → tag e t nonce aad text ≡ take t (last_value e t nonce aad text)
   unfolding tag blocks taken_in
@@ -104,16 +104,16 @@ module _ (e : List ℕ → List ℕ) where
       let count : length (a ++ b) / 16 ≡ length a / 16 + length b / 16 = simp length-append (omega arith) in
       ap (take t) (ap (λ n. chained e n start (a ++ b)) count ∙ chained_append (length a / 16) (length b / 16) start a b (omega arith))
 
-  pub check-is : (t : ℕ) (nonce aad text : List ℕ) → take t (whole_check e t nonce aad text) ≡ check_value e t nonce aad text
+  pub check_is : (t : ℕ) (nonce aad text : List ℕ) → take t (whole_check e t nonce aad text) ≡ check_value e t nonce aad text
   unfolding check_value
-  check-is t nonce aad text =
+  check_is t nonce aad text =
       take-xored t (last_value e t nonce aad text) (e (counter_block nonce 0))
       ∙ ap (λ z. xored z (e (counter_block nonce 0))) (sym (tag_is t nonce aad text))
 
   -- a first block, and what is left of xs
-  pub taken-first : (n : ℕ) (x y first xs ys : List ℕ) → 0 < length xs → first ≡ over (take 16 xs) (zeros 16) → drop 16 xs ≡ drop n ys
+  pub taken_first : (n : ℕ) (x y first xs ys : List ℕ) → 0 < length xs → first ≡ over (take 16 xs) (zeros 16) → drop 16 xs ≡ drop n ys
       → y ≡ e (xored x first) → taken_in e y (take (length ys - n) (drop n ys)) ≡ taken_in e x xs
-  taken-first n x y first xs ys h is rest yis =
+  taken_first n x y first xs ys h is rest yis =
       ap (taken_in e y) (take_rest ys n ∙ sym rest)
       ∙ (ap (λ z. taken_in e z (drop 16 xs)) (yis ∙ ap e (ap (xored x) is ∙ xored-over x (take 16 xs) (simp length-take (omega arith))))
-      ∙ sym (taken_in-more x xs h))
+      ∙ sym (taken_in_more x xs h))

@@ -9,7 +9,7 @@ use Rattle.block.specs.Xor.{xored}
 use Rattle.block.proofs.Sums.{xored-nil, length-xored}
 use Rattle.ccm.specs.Ccm.{counter_block, keystream, masked}
 use Rattle.ccm.specs.Parts.{masked_from}
-use Rattle.ccm.proofs.Blockwise.{parts-suc, part-is, behind-is}
+use Rattle.ccm.proofs.Blockwise.{parts-suc, part_is, behind_is}
 
 xored-append : (us bs xs ys : List ℕ) → length us ≡ length bs → xored (us ++ xs) (bs ++ ys) ≡ xored us bs ++ xored xs ys
 xored-append [] [] xs ys h = refl
@@ -41,38 +41,38 @@ xored-block xs bs ys h =
     (cases_lt (length xs) 16)
 
 module _ (e : List ℕ → List ℕ) (nonce : List ℕ) (long : (i : ℕ) → length (e (counter_block nonce i)) ≡ 16) where
-  masked_from-more : (i : ℕ) (xs : List ℕ) → 0 < length xs
+  masked_from_more : (i : ℕ) (xs : List ℕ) → 0 < length xs
       → masked_from e nonce i xs ≡ xored (take 16 xs) (e (counter_block nonce i)) ++ masked_from e nonce (i + 1) (drop 16 xs)
   unfolding masked_from keystream
-  masked_from-more i xs h =
+  masked_from_more i xs h =
       ap (λ n. xored xs (keystream e nonce n i)) (parts-suc (length xs) h)
       ∙ (xored-block xs (e (counter_block nonce i)) (keystream e nonce ((length xs - 16 + 15) / 16) (i + 1)) (long i)
       ∙ ap (λ n. xored (take 16 xs) (e (counter_block nonce i)) ++ xored (drop 16 xs) (keystream e nonce ((n + 15) / 16) (i + 1)))
       (sym (length-drop 16 xs)))
 
   -- the step of a loop: the part from a on is masked with the number i, and what is left gives the same
-  pub masked-step : (a n i : ℕ) (part xs all : List ℕ) → n ≡ min 16 (length xs - a) → a < length xs
+  pub masked_step : (a n i : ℕ) (part xs all : List ℕ) → n ≡ min 16 (length xs - a) → a < length xs
       → part ≡ xored (take (a + n - a) (drop a xs)) (e (counter_block nonce i))
       → take a xs ++ masked_from e nonce i (drop a xs) ≡ all
       → take (a + n) (put_mid a (a + n - a) xs part) ++ masked_from e nonce (i + 1) (drop (a + n) (put_mid a (a + n - a) xs part)) ≡ all
-  masked-step a n i part xs all h l is so =
-      let part-long : length part ≡ n =
+  masked_step a n i part xs all h l is so =
+      let part_long : length part ≡ n =
       ap length is ∙ (length-xored (take (a + n - a) (drop a xs)) (e (counter_block nonce i)) ∙ simp (length-take, length-drop) (omega arith)) in
       let front = take-put_mid a (a + n - a) xs part (a + n) (omega arith) (omega arith) in
       let rest = drop-put_mid a (a + n - a) xs part (a + n) (omega arith) (omega arith) (omega arith) in
-      let part-is' = is ∙ ap (λ z. xored z (e (counter_block nonce i))) (part-is a n xs h) in
+      let part-is' = is ∙ ap (λ z. xored z (e (counter_block nonce i))) (part_is a n xs h) in
       ap (λ z. z ++ masked_from e nonce (i + 1) (drop (a + n) (put_mid a (a + n - a) xs part))) front
-      ∙ (ap (λ z. (take a xs ++ part) ++ masked_from e nonce (i + 1) z) (rest ∙ behind-is a n xs h)
+      ∙ (ap (λ z. (take a xs ++ part) ++ masked_from e nonce (i + 1) z) (rest ∙ behind_is a n xs h)
       ∙ (append_assoc (take a xs) part (masked_from e nonce (i + 1) (drop 16 (drop a xs)))
       ∙ (ap (λ z. take a xs ++ (z ++ masked_from e nonce (i + 1) (drop 16 (drop a xs)))) part-is'
-      ∙ (ap (λ z. take a xs ++ z) (sym (masked_from-more i (drop a xs) (simp length-drop (omega arith)))) ∙ so))))
+      ∙ (ap (λ z. take a xs ++ z) (sym (masked_from_more i (drop a xs) (simp length-drop (omega arith)))) ∙ so))))
 
-  pub masked-all : (a i : ℕ) (xs all : List ℕ) → length xs ≤ a → take a xs ++ masked_from e nonce i (drop a xs) ≡ all → xs ≡ all
+  pub masked_all : (a i : ℕ) (xs all : List ℕ) → length xs ≤ a → take a xs ++ masked_from e nonce i (drop a xs) ≡ all → xs ≡ all
   unfolding masked_from
-  masked-all a i xs all h so =
+  masked_all a i xs all h so =
       sym (append-nil xs)
       ∙ (ap (λ z. z ++ []) (sym (take_all a xs h)) ∙ (ap (λ z. take a xs ++ masked_from e nonce i z) (sym (drop_all a xs h)) ∙ so))
 
-pub masked-is : (e : List ℕ → List ℕ) (nonce xs : List ℕ) → masked_from e nonce 1 xs ≡ masked e nonce xs
+pub masked_is : (e : List ℕ → List ℕ) (nonce xs : List ℕ) → masked_from e nonce 1 xs ≡ masked e nonce xs
 unfolding masked_from masked
-masked-is e nonce xs = refl
+masked_is e nonce xs = refl

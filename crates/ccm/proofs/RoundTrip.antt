@@ -9,7 +9,7 @@ use Rattle.octets.specs.Octets.{Octets, same}
 use Rattle.octets.proofs.BigEndian.{length-big_endian, octets-big_endian}
 use Rattle.octets.proofs.Octets.{all_replicate, same_refl, same_true}
 use Rattle.block.specs.Xor.{xored}
-use Rattle.block.proofs.Sums.{length-xored, octets-xored, xored-twice}
+use Rattle.block.proofs.Sums.{length-xored, octets-xored, xored_twice}
 use Rattle.ccm.specs.Ccm.{whole, length_size, flags, first_block, encoded_length, blocks, counter_block, chained, tag, keystream, masked, check_value, sealed, opened_at, opened}
 use Rattle.ccm.proofs.BlockBytes.{length-headed, length-counter_block}
 use Rattle.ccm.proofs.Sizes.{length-masked, length-check_value}
@@ -21,15 +21,15 @@ length-first_block : (t : ℕ) (nonce aad : List ℕ) (n : ℕ) → length nonce
 unfolding first_block
 length-first_block t nonce aad n h = length-headed (flags t nonce aad) n nonce h
 
-flags-byte : (t : ℕ) (nonce aad : List ℕ) → t ≤ 16 → flags t nonce aad < 256
+flags_byte : (t : ℕ) (nonce aad : List ℕ) → t ≤ 16 → flags t nonce aad < 256
 unfolding flags
-flags-byte t nonce aad h =
+flags_byte t nonce aad h =
     let adata : cond (eqb (length aad) 0) 0 64 ≤ 64 = cond_both (eqb (length aad) 0) 0 64 (λ b. b ≤ 64) (λ e. omega arith) (λ e. omega arith) in
     omega arith
 
 octets-first_block : (t : ℕ) (nonce aad : List ℕ) (n : ℕ) → t ≤ 16 → Octets nonce → Octets (first_block t nonce aad n)
 unfolding first_block
-octets-first_block t nonce aad n h bytes = octets-block (flags t nonce aad) n nonce (flags-byte t nonce aad h) bytes
+octets-first_block t nonce aad n h bytes = octets-block (flags t nonce aad) n nonce (flags_byte t nonce aad h) bytes
 
 octets-counter_block : (nonce : List ℕ) (i : ℕ) → Octets nonce → Octets (counter_block nonce i)
 unfolding counter_block
@@ -56,11 +56,11 @@ octets-blocks aad text a b =
 
 module _ (e : List ℕ → List ℕ) where
   -- counter mode undoes itself
-  pub masked-twice : (nonce xs : List ℕ) → masked e nonce (masked e nonce xs) ≡ xs
+  pub masked_twice : (nonce xs : List ℕ) → masked e nonce (masked e nonce xs) ≡ xs
   unfolding masked
-  masked-twice nonce xs =
+  masked_twice nonce xs =
       let stream : ℕ → List ℕ = λ n. keystream e nonce ((n + 15) / 16) 1 in
-      ap (λ n. xored (xored xs (stream (length xs))) (stream n)) (length-xored xs (stream (length xs))) ∙ xored-twice xs (stream (length xs))
+      ap (λ n. xored (xored xs (stream (length xs))) (stream n)) (length-xored xs (stream (length xs))) ∙ xored_twice xs (stream (length xs))
 
   module _ (keeps : (b : List ℕ) → length b ≡ 16 → length (e b) ≡ 16) where
     module _ (t : ℕ) (nonce aad : List ℕ) (short : length nonce ≤ 15) (few : t ≤ 16) where
@@ -71,7 +71,7 @@ module _ (e : List ℕ → List ℕ) where
           let v = check_value e t nonce aad x in
           let text : length (y ++ v) - t ≡ length y = omega (arith, length-append y v, length-check_value e keeps t nonce aad x short few) in
           ap (λ n. opened_at e n t nonce aad (y ++ v)) text
-          ∙ rw (take_at y v (length y) refl, drop_at y v (length y) refl, masked-twice nonce x, same_refl v)
+          ∙ rw (take_at y v (length y) refl, drop_at y v (length y) refl, masked_twice nonce x, same_refl v)
 
     -- bytes
     module _ (gives : (b : List ℕ) → Octets b → length b ≡ 16 → Octets (e b)) where
@@ -128,7 +128,7 @@ module _ (e : List ℕ → List ℕ) where
   found t nonce aad n x y false test is = let z : ◌≡◌ {A = ℕ} 0 1 = cc in absurd (omega arith)
   found t nonce aad n x y true test is =
       let text : masked e nonce (take n y) ≡ x = cc in
-      let back : masked e nonce x ≡ take n y = ap (masked e nonce) (sym text) ∙ masked-twice nonce (take n y) in
+      let back : masked e nonce x ≡ take n y = ap (masked e nonce) (sym text) ∙ masked_twice nonce (take n y) in
       let value = same_true (drop n y) (check_value e t nonce aad (masked e nonce (take n y))) test in (
         text,
         ap (λ w. w ++ check_value e t nonce aad x) back

@@ -6,7 +6,7 @@ use Rattle.block.proofs.Sums.{length-xored}
 use Rattle.ccm.specs.Ccm.{chained, first_block, flags, masked, check_value, sealed, counter_block, keystream, whole}
 use Rattle.ccm.specs.Parts.{taken_in, associated, last_value, whole_check}
 use Rattle.ccm.proofs.BlockBytes.{length-headed}
-use Rattle.ccm.proofs.Chains.{check-is}
+use Rattle.ccm.proofs.Chains.{check_is}
 
 module _ (e : List ℕ → List ℕ) where
   pub length-masked : (nonce xs : List ℕ) → length (masked e nonce xs) ≡ length xs
@@ -35,7 +35,7 @@ module _ (e : List ℕ → List ℕ) where
     pub length-check_value : (t : ℕ) (nonce aad text : List ℕ) → length nonce ≤ 15 → t ≤ 16 → length (check_value e t nonce aad text) ≡ t
     length-check_value t nonce aad text h l =
         let long = length-whole_check t nonce aad text h in
-        ap length (sym (check-is e t nonce aad text)) ∙ (length-take t (whole_check e t nonce aad text) ∙ omega arith)
+        ap length (sym (check_is e t nonce aad text)) ∙ (length-take t (whole_check e t nonce aad text) ∙ omega arith)
 
     pub length-sealed : (t : ℕ) (nonce aad text : List ℕ) → length nonce ≤ 15 → t ≤ 16 → length (sealed e t nonce aad text) ≡ length text + t
     unfolding sealed

@@ -36,15 +36,15 @@ ended xs = xs ++ (0x80 ∷ zeros (63 - length xs))
 length-ended : (xs : List ℕ) → length xs < 64 → length (ended xs) ≡ 64
 length-ended xs room = simp (length-append, length-replicate) (omega arith)
 
-zeros-split : (m n k : ℕ) → k ≡ m + n → zeros k ≡ zeros m ++ zeros n
-zeros-split m n k e = ap zeros e ∙ sym (replicate-append-replicate m n 0)
+zeros_split : (m n k : ℕ) → k ≡ m + n → zeros k ≡ zeros m ++ zeros n
+zeros_split m n k e = ap zeros e ∙ sym (replicate-append-replicate m n 0)
 
 -- the padding goes into the block that the message ends in
 one_block : (xs q : List ℕ) → length xs < 56 → take 56 (ended xs) ++ q ≡ xs ++ (0x80 ∷ (zeros (55 - length xs) ++ q))
 one_block xs q room =
     let end = 0x80 ∷ zeros (55 - length xs) in
     let split : ended xs ≡ (xs ++ end) ++ zeros 8 =
-    ap (λ zs. xs ++ (0x80 ∷ zs)) (zeros-split (55 - length xs) 8 (63 - length xs) (omega arith))
+    ap (λ zs. xs ++ (0x80 ∷ zs)) (zeros_split (55 - length xs) 8 (63 - length xs) (omega arith))
     ∙ sym (append_assoc xs end (zeros 8)) in
     let long : length (xs ++ end) ≡ 56 = simp (length-append, length-replicate) (omega arith) in
     ap (λ ys. ys ++ q) (ap (take 56) split ∙ take_at (xs ++ end) (zeros 8) 56 long) ∙ append_assoc xs end q
@@ -52,20 +52,20 @@ one_block xs q room =
 -- it goes into that block and another
 two_blocks : (xs q : List ℕ) → length xs < 64 → ended xs ++ (zeros 56 ++ q) ≡ xs ++ (0x80 ∷ (zeros (119 - length xs) ++ q))
 two_blocks xs q room =
-    let split = zeros-split (63 - length xs) 56 (119 - length xs) (omega arith) in
+    let split = zeros_split (63 - length xs) 56 (119 - length xs) (omega arith) in
     append_assoc xs (0x80 ∷ zeros (63 - length xs)) (zeros 56 ++ q)
     ∙ ap (λ ys. xs ++ (0x80 ∷ ys)) (sym (append_assoc (zeros (63 - length xs)) (zeros 56) q) ∙ ap (λ ys. ys ++ q) (sym split))
 
 -- the last bytes of a message, with nothing after them
-concluded-end : (f : Compression) (t : ℕ) (v xs : List ℕ) → length xs ≡ t % 64 → concluded f (t - t % 64) v (xs ++ []) ≡ chained f (length (xs ++ padding t) / 64) v (xs ++ padding t)
+concluded_end : (f : Compression) (t : ℕ) (v xs : List ℕ) → length xs ≡ t % 64 → concluded f (t - t % 64) v (xs ++ []) ≡ chained f (length (xs ++ padding t) / 64) v (xs ++ padding t)
 unfolding concluded
-concluded-end f t v xs long =
+concluded_end f t v xs long =
     ap (λ ys. chained f (length (padded (t - t % 64) ys) / 64) v (padded (t - t % 64) ys)) (append-nil xs)
     ∙ ap (λ n. chained f (length (xs ++ padding n) / 64) v (xs ++ padding n)) (omega arith)
 
-padding-is : (t c : ℕ) → zero_count t ≡ c → padding t ≡ 0x80 ∷ (zeros c ++ big_endian 8 (t * 8 % 2 ^ 64))
+padding_is : (t c : ℕ) → zero_count t ≡ c → padding t ≡ 0x80 ∷ (zeros c ++ big_endian 8 (t * 8 % 2 ^ 64))
 unfolding padding
-padding-is t c e =
+padding_is t c e =
     ap (λ n. 0x80 ∷ (zeros n ++ big_endian 8 (8 * t % 2 ^ 64))) e
     ∙ ap (λ n. 0x80 ∷ (zeros c ++ big_endian 8 (n % 2 ^ 64))) (mul_comm 8 t)
 
@@ -82,15 +82,15 @@ both-blocks f v ys zs long also =
     ∙ chained-block f 1 v ys zs long
     ∙ ap (f (f v ys)) (take_all 64 zs (omega arith))
 
-end-one : (f : Compression) (v xs q : List ℕ) → length q ≡ 8 → length xs < 56 → let ys = xs ++ (0x80 ∷ (zeros (55 - length xs) ++ q)) in f v (placed 56 q (ended xs)) ≡ chained f (length ys / 64) v ys
-end-one f v xs q eight room =
+end_one : (f : Compression) (v xs q : List ℕ) → length q ≡ 8 → length xs < 56 → let ys = xs ++ (0x80 ∷ (zeros (55 - length xs) ++ q)) in f v (placed 56 q (ended xs)) ≡ chained f (length ys / 64) v ys
+end_one f v xs q eight room =
     let ys = xs ++ (0x80 ∷ (zeros (55 - length xs) ++ q)) in
     let long : length ys ≡ 64 = simp (length-append, length-replicate) (omega arith) in
     ap (f v) (last_block q (ended xs) eight (length-ended xs (omega arith)) ∙ one_block xs q room)
     ∙ sym (whole-block f v ys long)
 
-end-two : (f : Compression) (v xs q : List ℕ) → length q ≡ 8 → length xs < 64 → let ys = xs ++ (0x80 ∷ (zeros (119 - length xs) ++ q)) in f (f v (ended xs)) (placed 56 q (zeros 64)) ≡ chained f (length ys / 64) v ys
-end-two f v xs q eight room =
+end_two : (f : Compression) (v xs q : List ℕ) → length q ≡ 8 → length xs < 64 → let ys = xs ++ (0x80 ∷ (zeros (119 - length xs) ++ q)) in f (f v (ended xs)) (placed 56 q (zeros 64)) ≡ chained f (length ys / 64) v ys
+end_two f v xs q eight room =
     let ys = xs ++ (0x80 ∷ (zeros (119 - length xs) ++ q)) in
     let long : length (zeros 56 ++ q) ≡ 64 = length-append (zeros 56) q ∙ omega arith in
     ap (f (f v (ended xs))) (last_block q (zeros 64) eight refl)
@@ -106,17 +106,17 @@ padded-whole f v w b block t whole value is =
     let long : length xs ≡ t % 64 = length-take-le (t % 64) b (omega arith) in
     let mark : marked (t % 64) b ≡ ended xs = ap (λ k. xs ++ (0x80 ∷ zeros (63 - k))) (sym long) in
     let end : (c : ℕ) → zero_count t ≡ c → let ys = xs ++ (0x80 ∷ (zeros c ++ q)) in chained f (length ys / 64) v ys ≡ concluded f (t - t % 64) v (xs ++ []) =
-    λ c e. ap (λ p. chained f (length (xs ++ p) / 64) v (xs ++ p)) (sym (padding-is t c e)) ∙ sym (concluded-end f t v xs long) in
+    λ c e. ap (λ p. chained f (length (xs ++ p) / 64) v (xs ++ p)) (sym (padding_is t c e)) ∙ sym (concluded_end f t v xs long) in
     ⊎_elim
     (λ h. let yes = lt-ltb (t % 64) 56 h in
     ap (λ u. f u (placed 56 q block)) (value ∙ cond-true (ltb (t % 64) 56) _ _ yes)
     ∙ ap (λ c. f v (placed 56 q c)) (is ∙ cond-true (ltb (t % 64) 56) _ _ yes ∙ mark)
-    ∙ end-one f v xs q eight (omega arith)
+    ∙ end_one f v xs q eight (omega arith)
     ∙ end (55 - length xs) (omega arith))
     (λ h. let no' = le-ltb (t % 64) 56 h in
     ap (λ u. f u (placed 56 q block)) (value ∙ cond-false (ltb (t % 64) 56) _ _ no' ∙ ap (f v) mark)
     ∙ ap (λ c. f (f v (ended xs)) (placed 56 q c)) (is ∙ cond-false (ltb (t % 64) 56) _ _ no')
-    ∙ end-two f v xs q eight (omega arith)
+    ∙ end_two f v xs q eight (omega arith)
     ∙ end (119 - length xs) (omega arith))
     (cases_lt (t % 64) 56)
 
@@ -128,8 +128,8 @@ digest-padded f u v w b block last t n whole value is same count turned =
     ∙ padded-whole f v w b block t whole value is)
 
 -- the count of zeros ends a block, and no smaller one does
-pub zeros-end : (n : ℕ) → (n + 1 + zero_count n + 8) % 64 ≡ 0
-zeros-end n = omega arith
+pub zeros_end : (n : ℕ) → (n + 1 + zero_count n + 8) % 64 ≡ 0
+zeros_end n = omega arith
 
 pub zeros-least : (n z : ℕ) → (n + 1 + z + 8) % 64 ≡ 0 → zero_count n ≤ z
 zeros-least n z ends = omega arith

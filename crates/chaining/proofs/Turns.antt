@@ -4,13 +4,13 @@ use Rattle.std.proofs.lemmas.List.{take_all, take_more_set}
 use Rattle.chaining.specs.Turns.{built, turns}
 
 -- a loop that writes at each place what the rule gives, a rule that reads only the places before
-pub built-more : (rule : List ℕ → ℕ → ℕ) (xs : List ℕ) (n : ℕ) {x : ℕ} → rule (take n xs) n ≡ rule xs n → n < length xs → take n xs ≡ built rule n → x ≡ rule xs n → take (n + 1) (set xs n x) ≡ built rule (n + 1)
+pub built_more : (rule : List ℕ → ℕ → ℕ) (xs : List ℕ) (n : ℕ) {x : ℕ} → rule (take n xs) n ≡ rule xs n → n < length xs → take n xs ≡ built rule n → x ≡ rule xs n → take (n + 1) (set xs n x) ≡ built rule (n + 1)
 unfolding built
-built-more rule xs n {x} reads below before here =
+built_more rule xs n {x} reads below before here =
     take_more_set xs n x below ∙ ap (λ (y : ℕ). take n xs ++ y ∷ []) (here ∙ sym reads) ∙ rw (before, add-one)
 
-pub built-all : (rule : List ℕ → ℕ → ℕ) (xs : List ℕ) (n m : ℕ) → n ≡ m → length xs ≡ m → take n xs ≡ built rule n → xs ≡ built rule m
-built-all rule xs n m all long before = sym (take_all m xs (omega arith)) ∙ rw all at before
+pub built_all : (rule : List ℕ → ℕ → ℕ) (xs : List ℕ) (n m : ℕ) → n ≡ m → length xs ≡ m → take n xs ≡ built rule n → xs ≡ built rule m
+built_all rule xs n m all long before = sym (take_all m xs (omega arith)) ∙ rw all at before
 
 pub turns_more : (step : ℕ → List ℕ → List ℕ) (n : ℕ) (s : List ℕ) {u r : List ℕ} → u ≡ turns step n s → r ≡ step n u → r ≡ turns step (n + 1) s
 unfolding turns

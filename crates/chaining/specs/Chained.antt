@@ -57,8 +57,8 @@ part_filled f v b part zs t n k whole room some e is x =
     ∙ concluded-count f (total - total % 64) (t - at) v (take at b ++ (take n part ++ x)) (omega arith))
 
 -- bytes that end the block
-pub part-ends : (f : Compression) (v w b part zs : List ℕ) (t n k : ℕ) → length b ≡ 64 → t % 64 + n ≡ 64 → n ≤ length part → k ≡ n → zs ≡ take n part → w ≡ f v (put_mid (t % 64) k b zs) → (x : List ℕ) → digest_of f w (put_mid (t % 64) k b zs) ((t + n) % 2 ^ 64) x ≡ digest_of f v b t (take n part ++ x)
-part-ends f v w b part zs t n k whole all some e is turned x =
+pub part_ends : (f : Compression) (v w b part zs : List ℕ) (t n k : ℕ) → length b ≡ 64 → t % 64 + n ≡ 64 → n ≤ length part → k ≡ n → zs ≡ take n part → w ≡ f v (put_mid (t % 64) k b zs) → (x : List ℕ) → digest_of f w (put_mid (t % 64) k b zs) ((t + n) % 2 ^ 64) x ≡ digest_of f v b t (take n part ++ x)
+part_ends f v w b part zs t n k whole all some e is turned x =
     let at = t % 64 in
     let long : length zs ≡ n = ap length is ∙ length-take-le n part some in
     let total = (t + n) % 2 ^ 64 in
@@ -78,8 +78,8 @@ part-ends f v w b part zs t n k whole all some e is turned x =
     ∙ ap (concluded f (t - at) v) (sym list))
 
 -- one more part of what is to be absorbed: F and G are the digests that the chain comes to before and after it
-pub more-absorbed : (F G All : List ℕ → List ℕ) (part : List ℕ) (done n : ℕ) → ((x : List ℕ) → G x ≡ F (take n (take (length part - done) (drop done part)) ++ x)) → ((x : List ℕ) → F (drop done part ++ x) ≡ All x) → (x : List ℕ) → G (drop (done + n) part ++ x) ≡ All x
-more-absorbed F G All part done n this before x =
+pub more_absorbed : (F G All : List ℕ → List ℕ) (part : List ℕ) (done n : ℕ) → ((x : List ℕ) → G x ≡ F (take n (take (length part - done) (drop done part)) ++ x)) → ((x : List ℕ) → F (drop done part ++ x) ≡ All x) → (x : List ℕ) → G (drop (done + n) part ++ x) ≡ All x
+more_absorbed F G All part done n this before x =
     let rest = drop done part in
     let split : take n (take (length part - done) rest) ++ (drop (done + n) part ++ x) ≡ rest ++ x =
     ap (λ ys. take n ys ++ (drop (done + n) part ++ x)) (take_rest part done)
@@ -88,8 +88,8 @@ more-absorbed F G All part done n this before x =
     ∙ ap (λ ys. ys ++ x) (take-append-drop n rest) in
     this (drop (done + n) part ++ x) ∙ ap F split ∙ before x
 
-pub all-absorbed : (F All : List ℕ → List ℕ) (part : List ℕ) (done : ℕ) → length part ≤ done → ((x : List ℕ) → F (drop done part ++ x) ≡ All x) → (x : List ℕ) → F x ≡ All x
-all-absorbed F All part done end before x = ap (λ ys. F (ys ++ x)) (sym (drop_all done part end)) ∙ before x
+pub all_absorbed : (F All : List ℕ → List ℕ) (part : List ℕ) (done : ℕ) → length part ≤ done → ((x : List ℕ) → F (drop done part ++ x) ≡ All x) → (x : List ℕ) → F x ≡ All x
+all_absorbed F All part done end before x = ap (λ ys. F (ys ++ x)) (sym (drop_all done part end)) ∙ before x
 
 -- the count of words in a hash value
 length-chained : (f : Compression) (count n : ℕ) (v xs : List ℕ) → ((u b : List ℕ) → length (f u b) ≡ count) → length v ≡ count → length (chained f n v xs) ≡ count

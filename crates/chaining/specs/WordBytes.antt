@@ -26,15 +26,15 @@ octets-word_bytes [] = tt
 octets-word_bytes (w ∷ ws) =
     All-append (λ x. x < 256) (big_endian 4 w) (word_bytes ws) (octets-big_endian 4 w) (octets-word_bytes ws)
 
-word_bytes-push : (ws : List ℕ) (w : ℕ) → word_bytes (ws ++ (w ∷ [])) ≡ word_bytes ws ++ big_endian 4 w
+word_bytes_push : (ws : List ℕ) (w : ℕ) → word_bytes (ws ++ (w ∷ [])) ≡ word_bytes ws ++ big_endian 4 w
 unfolding word_bytes
-word_bytes-push [] w = append-nil (big_endian 4 w)
-word_bytes-push (u ∷ ws) w =
-    ap (λ ys. big_endian 4 u ++ ys) (word_bytes-push ws w) ∙ sym (append_assoc (big_endian 4 u) (word_bytes ws) (big_endian 4 w))
+word_bytes_push [] w = append-nil (big_endian 4 w)
+word_bytes_push (u ∷ ws) w =
+    ap (λ ys. big_endian 4 u ++ ys) (word_bytes_push ws w) ∙ sym (append_assoc (big_endian 4 u) (word_bytes ws) (big_endian 4 w))
 
 -- a write after another goes on where that one ends
-over-more : (p q ys : List ℕ) → take (length p) (over p ys) ++ over q (drop (length p) (over p ys)) ≡ over (p ++ q) ys
-over-more p q ys =
+over_more : (p q ys : List ℕ) → take (length p) (over p ys) ++ over q (drop (length p) (over p ys)) ≡ over (p ++ q) ys
+over_more p q ys =
     ap (λ zs. zs ++ over q (drop (length p) (over p ys))) (take-over (length p) p ys ∙ ap (λ zs. over zs (take (length p) ys)) (take_all (length p) p (omega arith)))
     ∙ ap (λ zs. over p (take (length p) ys) ++ over q zs) (drop-over-rest p ys)
     ∙ sym (over-append p q ys)
@@ -60,7 +60,7 @@ drop-reach n xs =
 
 -- one more word
 pub word_more : (ws out old bytes part : List ℕ) (i at : ℕ) → i < length ws → at ≡ min (length out) (4 * i) → bytes ≡ descending 4 (slice_index ws i) → part ≡ over bytes (take (length out - at) (drop at out)) → out ≡ over (word_bytes (take i ws)) old → put_mid at (length out - at) out part ≡ over (word_bytes (take (i + 1) ws)) old
-word_more ws out old bytes part i at more e bytes-are part-is before =
+word_more ws out old bytes part i at more e bytes-are part_is before =
     let p = word_bytes (take i ws) in
     let w = slice_index_or ws i 0 in
     let long : length p ≡ 4 * i = length-word_bytes (take i ws) ∙ ap (λ k. 4 * k) (length-take-le i ws (omega arith)) in
@@ -68,15 +68,15 @@ word_more ws out old bytes part i at more e bytes-are part-is before =
     let front : take at out ≡ take (length p) out = ap (λ k. take k out) here ∙ take-reach (length p) out in
     let rest : drop at out ≡ drop (length p) out = ap (λ k. drop k out) here ∙ drop-reach (length p) out in
     let written : part ≡ over (big_endian 4 w) (drop (length p) out) =
-    part-is ∙ ap (over bytes) (take_rest out at ∙ rest) ∙ ap (λ q. over q (drop (length p) out)) (bytes-are ∙ sym (big_endian-descending 4 w)) in
+    part_is ∙ ap (over bytes) (take_rest out at ∙ rest) ∙ ap (λ q. over q (drop (length p) out)) (bytes-are ∙ sym (big_endian-descending 4 w)) in
     let past : drop (length out - at) (drop at out) ≡ [] = drop-drop (length out - at) at out ∙ drop_all (at + (length out - at)) out (omega arith) in
     ap (λ ys. take at out ++ (part ++ ys)) past
     ∙ ap (λ ys. take at out ++ ys) (append-nil part)
     ∙ ap (λ ys. ys ++ part) front
     ∙ ap (λ ys. take (length p) out ++ ys) written
     ∙ ap (λ ys. take (length p) ys ++ over (big_endian 4 w) (drop (length p) ys)) before
-    ∙ over-more p (big_endian 4 w) old
-    ∙ ap (λ ys. over ys old) (sym (word_bytes-push (take i ws) w) ∙ ap word_bytes (sym (take_more ws i 0 more)))
+    ∙ over_more p (big_endian 4 w) old
+    ∙ ap (λ ys. over ys old) (sym (word_bytes_push (take i ws) w) ∙ ap word_bytes (sym (take_more ws i 0 more)))
 
 -- the word of four bytes, byte by byte
 four : (ds : List ℕ) → 4 ≤ length ds → number (take 4 ds) ≡ slice_index ds 0 * 16777216 + slice_index ds 1 * 65536 + slice_index ds 2 * 256 + slice_index ds 3
@@ -87,7 +87,7 @@ four ds long =
     let all = number_more 256 ds 3 (omega arith) in
     omega arith
 
-pub four-at : (xs : List ℕ) (k : ℕ) → k + 4 ≤ length xs → number (take 4 (drop k xs)) ≡ slice_index xs k * 16777216 + slice_index xs (k + 1) * 65536 + slice_index xs (k + 2) * 256 + slice_index xs (k + 3)
-four-at xs k long =
+pub four_at : (xs : List ℕ) (k : ℕ) → k + 4 ≤ length xs → number (take 4 (drop k xs)) ≡ slice_index xs k * 16777216 + slice_index xs (k + 1) * 65536 + slice_index xs (k + 2) * 256 + slice_index xs (k + 3)
+four_at xs k long =
     let h : 4 ≤ length (drop k xs) = simp length-drop (omega arith) in
     simp (get_or-drop, add-zero) at (four (drop k xs) h)

@@ -46,43 +46,43 @@ Is Restricted = RestrictedCode
 Is Reserved = ReservedCode
 
 module _ (x : ℕ) where
-  vendor-true : vendor_specific x ≡ true → VendorSpecificCode x
-  vendor-true = between 0x8001_0400 0x8001_ffff x
+  vendor_true : vendor_specific x ≡ true → VendorSpecificCode x
+  vendor_true = between 0x8001_0400 0x8001_ffff x
 
-  vendor-from : VendorSpecificCode x → vendor_specific x ≡ true
-  vendor-from = is_within 0x8001_0400 0x8001_ffff x
+  vendor_from : VendorSpecificCode x → vendor_specific x ≡ true
+  vendor_from = is_within 0x8001_0400 0x8001_ffff x
 
   restricted-true : restricted x ≡ true → RestrictedCode x
   restricted-true = between 0 0xffff x
 
-  restricted-from : RestrictedCode x → restricted x ≡ true
-  restricted-from = is_within 0 0xffff x
+  restricted_from : RestrictedCode x → restricted x ≡ true
+  restricted_from = is_within 0 0xffff x
 
   named-outside : NamedCode x → (VendorSpecificCode x → ⊥) × (RestrictedCode x → ⊥)
   named-outside n =
       let parts = and_parts (not (vendor_specific x)) (not (restricted x)) (passes outside named_codes x refl n) in
-      ((λ v. both_ways _ (not-true _ parts.0) (vendor-from v)), (λ r. both_ways _ (not-true _ parts.1) (restricted-from r)))
+      ((λ v. both_ways _ (not-true _ parts.0) (vendor_from v)), (λ r. both_ways _ (not-true _ parts.1) (restricted_from r)))
 
   -- a code is of the sort that it is defined to have
   has : Is (sorted x) x
   has =
       cond_both (named x) _ _ (λ s. Is s x) (λ n. n)
-      (λ n. cond_both (vendor_specific x) _ _ (λ s. Is s x) vendor-true
+      (λ n. cond_both (vendor_specific x) _ _ (λ s. Is s x) vendor_true
       (λ v. cond_both (restricted x) _ _ (λ s. Is s x) restricted-true
-      (λ r. (both_ways _ n, (λ f. both_ways _ v (vendor-from f)), (λ f. both_ways _ r (restricted-from f))))))
+      (λ r. (both_ways _ n, (λ f. both_ways _ v (vendor_from f)), (λ f. both_ways _ r (restricted_from f))))))
 
   not_named : (NamedCode x → ⊥) → sorted x ≡ cond (vendor_specific x) VendorSpecific (cond (restricted x) Restricted Reserved)
   not_named n = cond-false (named x) _ _ (fails (named x) (λ e. e) n)
 
   neither : (NamedCode x → ⊥) → (VendorSpecificCode x → ⊥) → sorted x ≡ cond (restricted x) Restricted Reserved
-  neither n v = not_named n ∙ cond-false (vendor_specific x) _ _ (fails (vendor_specific x) vendor-true v)
+  neither n v = not_named n ∙ cond-false (vendor_specific x) _ _ (fails (vendor_specific x) vendor_true v)
 
   -- and of no other
   only : (s : Sort) → Is s x → sorted x ≡ s
   only Named n = cond-true (named x) _ _ n
-  only VendorSpecific v = not_named (λ n. (named-outside n).0 v) ∙ cond-true (vendor_specific x) _ _ (vendor-from v)
+  only VendorSpecific v = not_named (λ n. (named-outside n).0 v) ∙ cond-true (vendor_specific x) _ _ (vendor_from v)
   only Restricted r =
-      neither (λ n. (named-outside n).1 r) (λ v. omega (arith, v.0, r.1)) ∙ cond-true (restricted x) _ _ (restricted-from r)
+      neither (λ n. (named-outside n).1 r) (λ v. omega (arith, v.0, r.1)) ∙ cond-true (restricted x) _ _ (restricted_from r)
   only Reserved (n, v, r) = neither n v ∙ cond-false (restricted x) _ _ (fails (restricted x) restricted-true r)
 
   pub exactly : (s r : Sort) → r ≡ sorted x → ExactlyWhen (r ≡ s) (Is s x)

@@ -4,7 +4,7 @@ use Rattle.std.specs.Option.{ok_or}
 use Rattle.std.proofs.lemmas.List.{length-append}
 use Rattle.std.proofs.lemmas.Bool.{and_from, cond-true, le-leb, lt-ltb, false≢true}
 use Rattle.octets.specs.Octets.{over, placed}
-use Rattle.octets.proofs.Octets.{length_over, over-all, placed-behind, take-over-front}
+use Rattle.octets.proofs.Octets.{length_over, over_all, placed_behind, take-over-front}
 use Rattle.block.specs.Schedule.{room_for, written}
 use Rattle.ccm.specs.Calls as calls
 use Rattle.ccm.specs.Ccm.{sealed, opened}
@@ -20,24 +20,24 @@ pub joined : (front back old mid new : List ℕ) → length front + length back 
 joined front back old mid new full first second =
     second
     ∙ (ap (placed (length front) back) first
-    ∙ (placed-behind (length front) front back old refl (omega arith) ∙ over-all (front ++ back) old (length-append front back ∙ full)))
+    ∙ (placed_behind (length front) front back old refl (omega arith) ∙ over_all (front ++ back) old (length-append front back ∙ full)))
 
 -- the length of a schedule, where keys of that length are taken
-schedule-of : (o : Option ℕ) → is_some o ≡ true → (m : ℕ) × (o ≡ Some m)
-schedule-of None e = absurd (false≢true e)
-schedule-of (Some m) e = (m, refl)
+schedule_of : (o : Option ℕ) → is_some o ≡ true → (m : ℕ) × (o ≡ Some m)
+schedule_of None e = absurd (false≢true e)
+schedule_of (Some m) e = (m, refl)
 
 pub record Expanded (w after : List ℕ) (r : ℕ) : Type 0 where
   pub within : r ≤ length after
   pub front : take r after ≡ w
 
 -- a schedule of at most 240 bytes has room in the work area, and stands at its start
-pub expanded-there : (o : Option ℕ) (w work after : List ℕ) (r : Option ℕ) → is_some o ≡ true → 240 ≤ length work
+pub expanded_there : (o : Option ℕ) (w work after : List ℕ) (r : Option ℕ) → is_some o ≡ true → 240 ≤ length work
     → ((m : ℕ) → o ≡ Some m → m ≤ 240) → ((m : ℕ) → o ≡ Some m → length w ≡ m)
     → r ≡ room_for o (length work) → after ≡ written (room_for o (length work)) w work
     → Expanded w after (unwrap_or r 0)
-expanded-there o w work after r taken room short long counted then-old =
-    let p = schedule-of o taken in
+expanded_there o w work after r taken room short long counted then-old =
+    let p = schedule_of o taken in
     let m = p.0 in
     let m-short = short m p.1 in
     let m-long = long m p.1 in
@@ -51,18 +51,18 @@ expanded-there o w work after r taken room short long counted then-old =
     }
 
 -- a nonce of 11 bytes and a check value of 16 take each text below 2^32 bytes
-eleven-fits : (k n : ℕ) → k ≡ 11 → n < 2 ^ 32 → calls.fits k 16 n ≡ true
-eleven-fits k n e h = ap (λ j. calls.fits j 16 n) e ∙ lt-ltb n (2 ^ 32) h
+eleven_fits : (k n : ℕ) → k ≡ 11 → n < 2 ^ 32 → calls.fits k 16 n ≡ true
+eleven_fits k n e h = ap (λ j. calls.fits j 16 n) e ∙ lt-ltb n (2 ^ 32) h
 
 -- what opening comes to is told as it is
 opened-told : (o : Option (List ℕ)) → told (calls.counted (ok_or o ccm.Mismatch)) ≡ counted (ok_or o Mismatch)
 opened-told None = refl
 opened-told (Some x) = refl
 
-opened-output : (o : Option (List ℕ)) (n : ℕ) (out : List ℕ)
+opened_output : (o : Option (List ℕ)) (n : ℕ) (out : List ℕ)
     → calls.output_after (ok_or o ccm.Mismatch) n out ≡ output_after (ok_or o Mismatch) n out
-opened-output None n out = refl
-opened-output (Some x) n out = refl
+opened_output None n out = refl
+opened_output (Some x) n out = refl
 
 -- r is what CCM answered, and after is the output that it left
 module _ (e : List ℕ → List ℕ) (nonce head : List ℕ) (eleven : length nonce ≡ 11) (r : Result ℕ CcmFault) (out after : List ℕ) where
@@ -70,24 +70,24 @@ module _ (e : List ℕ → List ℕ) (nonce head : List ℕ) (eleven : length no
     goes : calls.sealing e 16 nonce head n out ≡ Ok (sealed e 16 nonce head (take n out))
     goes =
         cond-true (calls.sealable (length nonce) 16 n (length out)) _ _
-        (and_from _ _ (eleven-fits (length nonce) n eleven short) (le-leb (n + 16) (length out) room))
+        (and_from _ _ (eleven_fits (length nonce) n eleven short) (le-leb (n + 16) (length out) room))
 
     pub sealed-counted : r ≡ calls.counted (calls.sealing e 16 nonce head n out) → told r ≡ Ok (length (sealed e 16 nonce head (take n out)))
     sealed-counted h = ap told (h ∙ ap calls.counted goes)
 
-    pub sealed-left : after ≡ calls.output_after (calls.sealing e 16 nonce head n out) 0 out → after ≡ over (sealed e 16 nonce head (take n out)) out
-    sealed-left h = h ∙ ap (λ o. calls.output_after o 0 out) goes
+    pub sealed_left : after ≡ calls.output_after (calls.sealing e 16 nonce head n out) 0 out → after ≡ over (sealed e 16 nonce head (take n out)) out
+    sealed_left h = h ∙ ap (λ o. calls.output_after o 0 out) goes
 
   module _ (y : List ℕ) (check : 16 ≤ length y) (short : length y - 16 < 2 ^ 32) (room : length y - 16 ≤ length out) where
     comes : calls.opening e 16 nonce head y out ≡ ok_or (opened e 16 nonce head y) ccm.Mismatch
     comes =
         cond-true (calls.openable (length nonce) 16 (length y) (length out)) _ _
         (and_from _ _ (le-leb 16 (length y) check)
-        (and_from _ _ (eleven-fits (length nonce) (length y - 16) eleven short) (le-leb (length y - 16) (length out) room)))
+        (and_from _ _ (eleven_fits (length nonce) (length y - 16) eleven short) (le-leb (length y - 16) (length out) room)))
 
     pub opened-counted : r ≡ calls.counted (calls.opening e 16 nonce head y out) → told r ≡ counted (ok_or (opened e 16 nonce head y) Mismatch)
     opened-counted h = ap told (h ∙ ap calls.counted comes) ∙ opened-told (opened e 16 nonce head y)
 
-    pub opened-left : after ≡ calls.output_after (calls.opening e 16 nonce head y out) (length y - 16) out
+    pub opened_left : after ≡ calls.output_after (calls.opening e 16 nonce head y out) (length y - 16) out
         → after ≡ output_after (ok_or (opened e 16 nonce head y) Mismatch) (length y - 16) out
-    opened-left h = h ∙ (ap (λ o. calls.output_after o (length y - 16) out) comes ∙ opened-output (opened e 16 nonce head y) (length y - 16) out)
+    opened_left h = h ∙ (ap (λ o. calls.output_after o (length y - 16) out) comes ∙ opened_output (opened e 16 nonce head y) (length y - 16) out)

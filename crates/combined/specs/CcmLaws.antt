@@ -50,8 +50,8 @@ length-nonce : (g : Given) → length g.salt ≡ 3 → length g.vector ≡ 8 →
 length-nonce g salt vector = omega (arith, length-append g.salt g.vector)
 
 module _ (scheduled : ℕ → Option ℕ) (expanded : List ℕ → List ℕ) (forward : List ℕ → List ℕ → List ℕ) (encryption integrity : ℕ) where
-  pub sizes-are-bounded : ((n m : ℕ) → scheduled n ≡ Some m → n ≤ 32) → SizesAreBounded (ccm_suite scheduled expanded forward encryption integrity)
-  sizes-are-bounded short t z e =
+  pub sizes_are_bounded : ((n m : ℕ) → scheduled n ≡ Some m → n ≤ 32) → SizesAreBounded (ccm_suite scheduled expanded forward encryption integrity)
+  sizes_are_bounded short t z e =
       let p = terms scheduled encryption integrity t z e in
       subst (Bounded t) p.same-sizes
       record {
@@ -59,16 +59,16 @@ module _ (scheduled : ℕ → Option ℕ) (expanded : List ℕ → List ℕ) (fo
         integrity = omega arith;
         salt = omega arith;
         vector = omega arith;
-        some-check = omega arith;
+        some_check = omega arith;
         check = omega arith;
-        some-unit = omega arith;
+        some_unit = omega arith;
         unit = omega arith;
-        unit-in-clear = λ no'. absurd (true≢false no');
+        unit_in_clear = λ no'. absurd (true≢false no');
       }
 
   module _ (keeps : (w b : List ℕ) → length b ≡ 16 → length (forward w b) ≡ 16) where
-    pub sealing-adds-the-check-value : SealingAddsTheCheckValue (ccm_suite scheduled expanded forward encryption integrity)
-    sealing-adds-the-check-value t z g x e fit text =
+    pub sealing_adds_the_check_value : SealingAddsTheCheckValue (ccm_suite scheduled expanded forward encryption integrity)
+    sealing_adds_the_check_value t z g x e fit text =
         let p = terms scheduled encryption integrity t z e in
         let k = keyed scheduled t z g p (lengths t z g fit) in
         let eleven = length-nonce g k.salt k.vector in
@@ -107,9 +107,9 @@ module _ (scheduled : ℕ → Option ℕ) (expanded : List ℕ → List ℕ) (fo
             octets-sealed (forward (expanded g.key)) (keeps (expanded g.key)) gives (nonce g) short nonce-bytes 16 g.head (omega arith)
             s.fitting.head x text.bytes
 
-        what-opens : (x y : List ℕ) → Sealed s.sizes y → ccm_opened expanded forward g y ≡ Some x
+        what_opens : (x y : List ℕ) → Sealed s.sizes y → ccm_opened expanded forward g y ≡ Some x
             → Text s.sizes x × (ccm_sealed expanded forward g x ≡ y)
-        what-opens x y h opens =
+        what_opens x y h opens =
             let e = forward (expanded g.key) in
             let long : length x ≡ length y - s.sizes.check =
             length-opened e 16 (nonce g) g.head x y opens ∙ ap (λ (w : Sizes). length y - w.check) own.same-sizes in (
@@ -130,5 +130,5 @@ module _ (scheduled : ℕ → Option ℕ) (expanded : List ℕ → List ℕ) (fo
       pub sealing-gives-bytes : SealingGivesBytes (ccm_suite scheduled expanded forward encryption integrity)
       sealing-gives-bytes t g s = gives-bytes t g s expanding-gives forward-gives
 
-      pub what-opens-was-sealed : WhatOpensWasSealed (ccm_suite scheduled expanded forward encryption integrity)
-      what-opens-was-sealed t g s = what-opens t g s expanding-gives forward-gives
+      pub what_opens_was_sealed : WhatOpensWasSealed (ccm_suite scheduled expanded forward encryption integrity)
+      what_opens_was_sealed t g s = what_opens t g s expanding-gives forward-gives

@@ -1,5 +1,5 @@
 // CCM over any block cipher as a suite.
-ghost use Rattle.suite.proofs.Mismatch.{mismatch-when-no-text-seals};
+ghost use Rattle.suite.proofs.Mismatch as mismatch;
 ghost use Rattle.combined.specs.CcmSuite.{ccm_suite};
 ghost use Rattle.combined.specs.CcmLaws as ccm;
 
@@ -22,11 +22,11 @@ impl<B: BlockCipher> Suite for Ccm<B> {
     ghost meaning = { λ s. ccm_suite B.BlockCipher.scheduled B.BlockCipher.expanded B.BlockCipher.forward s.encryption s.integrity };
 
     ghost sizes_are_bounded = { λ s.
-        ccm.sizes-are-bounded B.BlockCipher.scheduled B.BlockCipher.expanded B.BlockCipher.forward s.encryption s.integrity
+        ccm.sizes_are_bounded B.BlockCipher.scheduled B.BlockCipher.expanded B.BlockCipher.forward s.encryption s.integrity
         B.BlockCipher.keys_are_short };
 
     ghost sealing_adds_the_check_value = { λ s.
-        ccm.sealing-adds-the-check-value B.BlockCipher.scheduled B.BlockCipher.expanded B.BlockCipher.forward s.encryption
+        ccm.sealing_adds_the_check_value B.BlockCipher.scheduled B.BlockCipher.expanded B.BlockCipher.forward s.encryption
         s.integrity
         B.BlockCipher.forward_keeps_length };
 
@@ -41,16 +41,16 @@ impl<B: BlockCipher> Suite for Ccm<B> {
         B.BlockCipher.forward_keeps_length };
 
     ghost what_opens_was_sealed = { λ s.
-        ccm.what-opens-was-sealed B.BlockCipher.scheduled B.BlockCipher.expanded B.BlockCipher.forward s.encryption s.integrity
+        ccm.what_opens_was_sealed B.BlockCipher.scheduled B.BlockCipher.expanded B.BlockCipher.forward s.encryption s.integrity
         B.BlockCipher.forward_keeps_length
         B.BlockCipher.expanding_gives_bytes
         B.BlockCipher.forward_gives_bytes };
 
     ghost mismatch_when_no_text_seals = { λ s.
-        mismatch-when-no-text-seals (ccm_suite B.BlockCipher.scheduled B.BlockCipher.expanded B.BlockCipher.forward s.encryption s.integrity)
+        mismatch.mismatch_when_no_text_seals (ccm_suite B.BlockCipher.scheduled B.BlockCipher.expanded B.BlockCipher.forward s.encryption s.integrity)
         (ccm.opening-undoes-sealing B.BlockCipher.scheduled B.BlockCipher.expanded B.BlockCipher.forward s.encryption s.integrity
         B.BlockCipher.forward_keeps_length)
-        (ccm.what-opens-was-sealed B.BlockCipher.scheduled B.BlockCipher.expanded B.BlockCipher.forward s.encryption s.integrity
+        (ccm.what_opens_was_sealed B.BlockCipher.scheduled B.BlockCipher.expanded B.BlockCipher.forward s.encryption s.integrity
         B.BlockCipher.forward_keeps_length
         B.BlockCipher.expanding_gives_bytes
         B.BlockCipher.forward_gives_bytes) };

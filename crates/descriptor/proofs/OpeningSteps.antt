@@ -7,7 +7,7 @@ use Rattle.std.specs.Option.{ok_or}
 use Rattle.std.proofs.ByRecursion.{All-drop, All-take}
 use Rattle.std.proofs.lemmas.List.{append-nil, length-append, length-take-le, length-drop, take-append-drop, length-replicate}
 use Rattle.octets.specs.Octets.{Octets, over, wiped, zeros}
-use Rattle.octets.proofs.Octets.{over-all, over-append, over-fits, over-over, wiped-all, wiped-fits}
+use Rattle.octets.proofs.Octets.{over_all, over-append, over-fits, over-over, wiped_all, wiped-fits}
 use Rattle.padding.specs.Padding.{data_length, unpadded, cut}
 use Rattle.layout.specs.Frame.{InARow, parted}
 use Rattle.layout.specs.declared.Fault.{Fault as LayoutFault}
@@ -29,8 +29,8 @@ use Rattle.descriptor.specs.declared.fault.Fault.TheVariants.{Layout, Suite}
 use Rattle.descriptor.specs.declared.protection.Protection.{Protection}
 
 -- the text is the data where the suite does not encrypt, else what unpadding leaves
-pub text_in-clear : (z : Sizes) (text : List ℕ) → not z.encrypts ≡ true → data_of z text ≡ Some text
-text_in-clear z text e = by z.encrypts e
+pub text_in_clear : (z : Sizes) (text : List ℕ) → not z.encrypts ≡ true → data_of z text ≡ Some text
+text_in_clear z text e = by z.encrypts e
   where
     by : (b : Bool) → not b ≡ true → cond b (unpadded text) (Some text) ≡ Some text
     by true h = absurd (let n : ◌≡◌ {A = ℕ} 0 1 = cc in omega arith)
@@ -44,14 +44,14 @@ text-padded z text n e is = by z.encrypts e ∙ ap (λ k. cut k text) (sym is)
     by false h = absurd (let n : ◌≡◌ {A = ℕ} 0 1 = cc in omega arith)
 
 -- the first n bytes kept and zeros behind them up to t
-pub front-and-zeros : (n t : ℕ) (part buffer : List ℕ) → n ≤ t → t ≤ length buffer → part ≡ wiped (t - n) (take (t - n) (drop n buffer))
+pub front_and_zeros : (n t : ℕ) (part buffer : List ℕ) → n ≤ t → t ≤ length buffer → part ≡ wiped (t - n) (take (t - n) (drop n buffer))
     → put_mid n (t - n) buffer part ≡ over (take n buffer ++ zeros (t - n)) buffer
-front-and-zeros n t part buffer low high is =
+front_and_zeros n t part buffer low high is =
     let front : length (take n buffer) ≡ n = length-take-le n buffer (omega arith) in
     let mid : length (take (t - n) (drop n buffer)) ≡ t - n = length-take-le (t - n) (drop n buffer) (omega (arith, length-drop n buffer)) in
-    let zero : part ≡ zeros (t - n) = is ∙ (wiped-all (t - n) _ (omega arith) ∙ ap zeros mid) in
+    let zero : part ≡ zeros (t - n) = is ∙ (wiped_all (t - n) _ (omega arith) ∙ ap zeros mid) in
     let kept : over (take n buffer) (take (length (take n buffer)) buffer) ≡ take n buffer =
-    ap (λ k. over (take n buffer) (take k buffer)) front ∙ over-all (take n buffer) (take n buffer) refl in
+    ap (λ k. over (take n buffer) (take k buffer)) front ∙ over_all (take n buffer) (take n buffer) refl in
     let rest : wiped (t - n) (drop (length (take n buffer)) buffer) ≡ zeros (t - n) ++ drop (t - n) (drop n buffer) =
     ap (λ k. wiped (t - n) (drop k buffer)) front ∙ wiped-fits (t - n) (drop n buffer) (omega (arith, length-drop n buffer)) in
     ap (λ w. take n buffer ++ (w ++ drop (t - n) (drop n buffer))) zero
@@ -69,36 +69,36 @@ text-kept t buffer high =
 
 -- what the suite refused, or found to mismatch
 module _ (z : Sizes) (e : ℕ) where
-  pub failed-answer : (o : Result (List ℕ) SuiteFault) (f : SuiteFault) → counted o ≡ Err f → Err (Suite f) ≡ answer (concluded z e o)
-  failed-answer (Ok x) f is = absurd (let n : ◌≡◌ {A = ℕ} 0 1 = cc in omega arith)
-  failed-answer (Err NotServed) f is = cc
-  failed-answer (Err Size) f is = cc
-  failed-answer (Err Mismatch) f is = cc
+  pub failed_answer : (o : Result (List ℕ) SuiteFault) (f : SuiteFault) → counted o ≡ Err f → Err (Suite f) ≡ answer (concluded z e o)
+  failed_answer (Ok x) f is = absurd (let n : ◌≡◌ {A = ℕ} 0 1 = cc in omega arith)
+  failed_answer (Err NotServed) f is = cc
+  failed_answer (Err Size) f is = cc
+  failed_answer (Err Mismatch) f is = cc
 
-  pub failed-data : (o : Result (List ℕ) SuiteFault) (f : SuiteFault) (buffer : List ℕ) → counted o ≡ Err f
+  pub failed_data : (o : Result (List ℕ) SuiteFault) (f : SuiteFault) (buffer : List ℕ) → counted o ≡ Err f
       → suite.output_after o e buffer ≡ data_after (concluded z e o) buffer
-  failed-data (Ok x) f buffer is = absurd (let n : ◌≡◌ {A = ℕ} 0 1 = cc in omega arith)
-  failed-data (Err NotServed) f buffer is = refl
-  failed-data (Err Size) f buffer is = refl
-  failed-data (Err Mismatch) f buffer is = refl
+  failed_data (Ok x) f buffer is = absurd (let n : ◌≡◌ {A = ℕ} 0 1 = cc in omega arith)
+  failed_data (Err NotServed) f buffer is = refl
+  failed_data (Err Size) f buffer is = refl
+  failed_data (Err Mismatch) f buffer is = refl
 
-  pub failed-work : (o : Result (List ℕ) SuiteFault) (f : SuiteFault) (work : List ℕ) → counted o ≡ Err f
+  pub failed_work : (o : Result (List ℕ) SuiteFault) (f : SuiteFault) (work : List ℕ) → counted o ≡ Err f
       → suite.work_after o work ≡ work_after (concluded z e o) work
-  failed-work (Ok x) f work is = absurd (let n : ◌≡◌ {A = ℕ} 0 1 = cc in omega arith)
-  failed-work (Err NotServed) f work is = refl
-  failed-work (Err Size) f work is = refl
-  failed-work (Err Mismatch) f work is = refl
+  failed_work (Ok x) f work is = absurd (let n : ◌≡◌ {A = ℕ} 0 1 = cc in omega arith)
+  failed_work (Err NotServed) f work is = refl
+  failed_work (Err Size) f work is = refl
+  failed_work (Err Mismatch) f work is = refl
 
 -- data written over the text that stood there
-pub written-again : (o : Option (List ℕ)) (e : ℕ) (text buffer : List ℕ) → length text ≤ e
+pub written_again : (o : Option (List ℕ)) (e : ℕ) (text buffer : List ℕ) → length text ≤ e
     → data_after (unpadding o e) (over text buffer) ≡ data_after (unpadding o e) buffer
-written-again (Some xs) e text buffer h =
+written_again (Some xs) e text buffer h =
     over-over (xs ++ zeros (e - length xs)) text buffer (simp (length-append, length-replicate) (omega arith))
-written-again None e text buffer h = over-over (zeros e) text buffer (simp length-replicate h)
+written_again None e text buffer h = over-over (zeros e) text buffer (simp length-replicate h)
 
-pub work-wiped : (o : Option (List ℕ)) (e : ℕ) (work : List ℕ) → work_after (unpadding o e) work ≡ wiped 240 work
-work-wiped (Some xs) e work = refl
-work-wiped None e work = refl
+pub work_wiped : (o : Option (List ℕ)) (e : ℕ) (work : List ℕ) → work_after (unpadding o e) work ≡ wiped 240 work
+work_wiped (Some xs) e work = refl
+work_wiped None e work = refl
 
 -- what a suite's call took is bytes
 pub record Bytes (g : Given) (y : List ℕ) : Type 0 where
@@ -113,15 +113,15 @@ pub record Bytes (g : Given) (y : List ℕ) : Type 0 where
 pub record GivenText (m : Meaning) (t : Triple) (z : Sizes) (g : Given) (y buffer work : List ℕ) (n : ℕ) : Type 0 where
   pub text : List ℕ
   pub is : suite.opening m t g y buffer work ≡ Ok text
-  pub counted-so : length text ≡ n
+  pub counted_so : length text ≡ n
   pub fits : Openable t z g (length y) (length buffer) (length work)
   pub text-fits : Text z text
   pub sealed : m.sealed t g text ≡ y
   pub whole : length text ≡ length y - z.check
 
 module _ (m : Meaning) (t : Triple) (z : Sizes) (g : Given) (y buffer work : List ℕ) (told : m.serves t ≡ Some z) where
-  abbrev pub served-with : Lengths t z g → Bytes g y → Served m t g
-  served-with lengths bytes = record {
+  abbrev pub served_with : Lengths t z g → Bytes g y → Served m t g
+  served_with lengths bytes = record {
     sizes = z;
     told = told;
     fitting = record {
@@ -134,29 +134,29 @@ module _ (m : Meaning) (t : Triple) (z : Sizes) (g : Given) (y buffer work : Lis
     };
   }
 
-  counted-ok : (o : Result (List ℕ) SuiteFault) (n : ℕ) → counted o ≡ Ok n → (text : List ℕ) × ((o ≡ Ok text) × (length text ≡ n))
-  counted-ok (Ok x) n e = (x, (refl, cc))
-  counted-ok (Err f) n e = absurd (let z : ◌≡◌ {A = ℕ} 0 1 = cc in omega arith)
+  counted_ok : (o : Result (List ℕ) SuiteFault) (n : ℕ) → counted o ≡ Ok n → (text : List ℕ) × ((o ≡ Ok text) × (length text ≡ n))
+  counted_ok (Ok x) n e = (x, (refl, cc))
+  counted_ok (Err f) n e = absurd (let z : ◌≡◌ {A = ℕ} 0 1 = cc in omega arith)
 
   some_of : (o : Option (List ℕ)) (text : List ℕ) → ok_or o Mismatch ≡ Ok text → o ≡ Some text
   some_of (Some x) text e = cc
   some_of None text e = absurd (let z : ◌≡◌ {A = ℕ} 0 1 = cc in omega arith)
 
-  fits-of : (b : Bool) (text : List ℕ) → cond b (ok_or (m.opened t g y) Mismatch) (Err Size) ≡ Ok text
+  fits_of : (b : Bool) (text : List ℕ) → cond b (ok_or (m.opened t g y) Mismatch) (Err Size) ≡ Ok text
       → (b ≡ true) × (m.opened t g y ≡ Some text)
-  fits-of true text e = (refl, some_of (m.opened t g y) text e)
-  fits-of false text e = absurd (let z : ◌≡◌ {A = ℕ} 0 1 = cc in omega arith)
+  fits_of true text e = (refl, some_of (m.opened t g y) text e)
+  fits_of false text e = absurd (let z : ◌≡◌ {A = ℕ} 0 1 = cc in omega arith)
 
   pub given-text : WhatOpensWasSealed m → SealingAddsTheCheckValue m → Bytes g y
       → (n : ℕ) → counted (suite.opening m t g y buffer work) ≡ Ok n → GivenText m t z g y buffer work n
   given-text opens adds bytes n e =
-      let found = counted-ok (suite.opening m t g y buffer work) n e in
+      let found = counted_ok (suite.opening m t g y buffer work) n e in
       let text = found.0 in
-      let both = fits-of (opening_fits t z g (length y) (length buffer) (length work)) text
+      let both = fits_of (opening_fits t z g (length y) (length buffer) (length work)) text
       (sym (ap (λ o. suite.opening_by o m t g y buffer work) told) ∙ found.1.0) in
       let fits = openable t z g (length y) (length buffer) (length work) both.0 in
       let lengths = lengths-fit t z g fits.lengths in
-      let served = served-with fits.lengths bytes in
+      let served = served_with fits.lengths bytes in
       let was = opens t g served text y (record {
         bytes = bytes.sealed;
         check = fits.check;
@@ -167,7 +167,7 @@ module _ (m : Meaning) (t : Triple) (z : Sizes) (g : Given) (y buffer work : Lis
       record {
         text = text;
         is = found.1.0;
-        counted-so = found.1.1;
+        counted_so = found.1.1;
         fits = fits;
         text-fits = was.0;
         sealed = was.1;
@@ -179,22 +179,22 @@ pub octets-between : (a b : ℕ) (list : List ℕ) → Octets list → Octets (b
 octets-between a b list h = let byte : ℕ → Type 0 = λ x. x < 256 in All-take byte (b - a) (drop a list) (All-drop byte a list h)
 
 -- the length of the protected part, by its places and by what stands there
-pub protected-length : (f : Frame) (s c : ℕ) (at : Parts) (list : List ℕ) → InARow f s c at → f.end ≤ length list
+pub protected_length : (f : Frame) (s c : ℕ) (at : Parts) (list : List ℕ) → InARow f s c at → f.end ≤ length list
     → length (between at.protected at.end list) - c ≡ at.check - at.protected
-protected-length f s c at list row within =
-    let v = row.vector-after-sqn in
-    let p = row.protected-after-vector in
-    let k = row.check-after-protected in
-    let e = row.check-to-end in
-    let l = row.end-of-frame in
+protected_length f s c at list row within =
+    let v = row.vector-after_sqn in
+    let p = row.protected_after-vector in
+    let k = row.check-after_protected in
+    let e = row.check_to_end in
+    let l = row.end_of_frame in
     let long : length (between at.protected at.end list) ≡ at.end - at.protected =
     length-take-le (at.end - at.protected) (drop at.protected list) (omega (arith, length-drop at.protected list)) in
     omega arith
 
 -- what opening a frame comes to once its sizes are told, it ends in the list, and it is cut in parts
 module _ (m : Meaning) (p : Protection) (list buffer work : List ℕ) (z : Sizes) (f : Frame) where
-  pub frame-unserved : m.serves p.triple ≡ None → refused (Suite NotServed) ≡ frame_opening m p list buffer work f
-  frame-unserved told = ap (λ o. frame_opening_by m p list buffer work o f) (sym told)
+  pub frame_unserved : m.serves p.triple ≡ None → refused (Suite NotServed) ≡ frame_opening m p list buffer work f
+  frame_unserved told = ap (λ o. frame_opening_by m p list buffer work o f) (sym told)
 
   pub frame-served : m.serves p.triple ≡ Some z → (b : Bool) → ltb (length list) f.end ≡ b
       → cond b (refused (Layout Length)) (parts_opening m p list buffer work z f (parted f z.vector z.check z.unit z.encrypts))

@@ -31,11 +31,11 @@ module _ (m : Meaning) (p : Protection) (form : Form) (z : Sizes) (sai sqn : ℕ
   pub text-short : text_length z (length xs) < 2 ^ 32
   text-short = omega (arith, fits.short)
 
-  pub text-is-sealed : (part area : List ℕ) → length part ≡ text_length z (length xs) + z.check → 240 ≤ length area
+  pub text_is_sealed : (part area : List ℕ) → length part ≡ text_length z (length xs) + z.check → 240 ≤ length area
       → take (text_length z (length xs)) part ≡ text_of z xs
       → sealing m p.triple (given_to p (head_of sai sqn) vector) (text_length z (length xs)) part area
       ≡ Ok (m.sealed p.triple (given_to p (head_of sai sqn) vector) (text_of z xs))
-  text-is-sealed part area long room there =
+  text_is_sealed part area long room there =
       let g = given_to p (head_of sai sqn) vector in
       let n = text_length z (length xs) in
       let s : Sealable p.triple z g n (length part) (length area) = record {
@@ -43,7 +43,7 @@ module _ (m : Meaning) (p : Protection) (form : Form) (z : Sizes) (sai sqn : ℕ
         units = text-units z xs p.triple bounded;
         short = text-short;
         room = omega arith;
-        work-bytes = room;
+        work_bytes = room;
       } in
       sealing-served m p.triple z g served n part area (sealing-fits p.triple z g n (length part) (length area) s)
       ∙ ap (λ w. Ok (m.sealed p.triple g w)) there
@@ -58,10 +58,10 @@ module _ (m : Meaning) (p : Protection) (form : Form) (z : Sizes) (sai sqn : ℕ
       (lengths-fit p.triple z (given_to p (head_of sai sqn) vector) given-fits) fit
       ∙ ap (λ k. k + z.check) n
 
-pub made-long : (m : Meaning) (p : Protection) (l : Label) (z : Sizes) (vector xs : List ℕ) (out work : ℕ) → SealingAddsTheCheckValue m
+pub made_long : (m : Meaning) (p : Protection) (l : Label) (z : Sizes) (vector xs : List ℕ) (out work : ℕ) → SealingAddsTheCheckValue m
     → m.serves p.triple ≡ Some z → Bounded p.triple z → Makeable p l.form z (length vector) (length xs) out work
     → (buffer area : List ℕ) → length (made_bytes m p l vector xs buffer area z) ≡ made_length l.form z (length xs)
-made-long m p l z vector xs out work adds served bounded fits buffer area =
+made_long m p l z vector xs out work adds served bounded fits buffer area =
     let s = m.sealed p.triple (given_to p (head_of l.sai l.sqn) vector) (text_of z xs) in
     let n = length-sealed m p l.form z l.sai l.sqn vector xs out work served bounded fits adds in
     omega (arith, length-descriptor l.form l.sai l.sqn vector s, n, fits.vector)

@@ -2,10 +2,10 @@
 use Rattle.std.proofs.Common.{◌≡◌, ℕ, ◌+◌, ◌%◌, ◌<◌, ◌≤◌, Bool, true, false, cond, List, ◌++◌, length, take, drop, sym, refl, ap, ◌∙◌, subst, arith}
 use native.Mathlib.Nat.{mod-one}
 use Rattle.octets.specs.Octets.{Octets, over}
-use Rattle.octets.proofs.Octets.{over-fits, over-all, length_over}
+use Rattle.octets.proofs.Octets.{over-fits, over_all, length_over}
 use Rattle.padding.specs.Padding.{padded, trailed, trailer, least_pad, padded_length}
 use Rattle.padding.proofs.Laws.{length-padded, octets-padded}
-use Rattle.padding.proofs.Least.{least_pad-at-most-15, padded_length-multiple}
+use Rattle.padding.proofs.Least.{least_pad_at_most_15, padded_length-multiple}
 use Rattle.padding.proofs.Trailer.{trailed-fits}
 use Rattle.std.proofs.lemmas.List.{take_at}
 use Rattle.suite.specs.Laws.{Bounded}
@@ -17,21 +17,21 @@ module _ (z : Sizes) (xs : List ℕ) where
   pub text-padded : z.encrypts ≡ true → text_of z xs ≡ padded (least_pad z.unit (length xs)) xs
   text-padded e = ap (λ b. cond b (padded (least_pad z.unit (length xs)) xs) xs) e
 
-  pub text_in-clear : z.encrypts ≡ false → text_of z xs ≡ xs
-  text_in-clear e = ap (λ b. cond b (padded (least_pad z.unit (length xs)) xs) xs) e
+  pub text_in_clear : z.encrypts ≡ false → text_of z xs ≡ xs
+  text_in_clear e = ap (λ b. cond b (padded (least_pad z.unit (length xs)) xs) xs) e
 
   pub length-padded-text : z.encrypts ≡ true → text_length z (length xs) ≡ padded_length z.unit (length xs)
   length-padded-text e = ap (λ b. cond b (padded_length z.unit (length xs)) (length xs)) e
 
-  pub length-text_in-clear : z.encrypts ≡ false → text_length z (length xs) ≡ length xs
-  length-text_in-clear e = ap (λ b. cond b (padded_length z.unit (length xs)) (length xs)) e
+  pub length_text_in_clear : z.encrypts ≡ false → text_length z (length xs) ≡ length xs
+  length_text_in_clear e = ap (λ b. cond b (padded_length z.unit (length xs)) (length xs)) e
 
   -- data, then trailer, over a buffer of the text's length
-  pub trailer-behind-data : (text a b : List ℕ) → z.encrypts ≡ true → z.unit ≤ 16 → length text ≡ text_length z (length xs)
+  pub trailer_behind_data : (text a b : List ℕ) → z.encrypts ≡ true → z.unit ≤ 16 → length text ≡ text_length z (length xs)
       → a ≡ over xs text → b ≡ trailed (length xs) a → b ≡ text_of z xs
-  trailer-behind-data text a b e u long copied done =
+  trailer_behind_data text a b e u long copied done =
       let p = least_pad z.unit (length xs) in
-      let few : p ≤ 15 = least_pad-at-most-15 z.unit (length xs) u in
+      let few : p ≤ 15 = least_pad_at_most_15 z.unit (length xs) u in
       let whole : length text ≡ length xs + p + 2 = long ∙ length-padded-text e in
       let a-long : length a ≡ length xs + p + 2 = ap length copied ∙ (length_over xs text ∙ whole) in
       let front : take (length xs) a ≡ xs =
@@ -39,32 +39,32 @@ module _ (z : Sizes) (xs : List ℕ) where
       done
       ∙ (trailed-fits (length xs) p a a-long (omega arith) ∙ (ap (λ w. w ++ trailer p) front ∙ sym (text-padded e)))
 
-  pub data-alone : (text a : List ℕ) → z.encrypts ≡ false → length text ≡ text_length z (length xs) → a ≡ over xs text → a ≡ text_of z xs
-  data-alone text a e long copied =
-      copied ∙ (over-all xs text (sym (long ∙ length-text_in-clear e)) ∙ sym (text_in-clear e))
+  pub data_alone : (text a : List ℕ) → z.encrypts ≡ false → length text ≡ text_length z (length xs) → a ≡ over xs text → a ≡ text_of z xs
+  data_alone text a e long copied =
+      copied ∙ (over_all xs text (sym (long ∙ length_text_in_clear e)) ∙ sym (text_in_clear e))
 
-  length-text-by : (b : Bool) → z.encrypts ≡ b → length (text_of z xs) ≡ text_length z (length xs)
-  length-text-by true e = ap length (text-padded e) ∙ (length-padded (least_pad z.unit (length xs)) xs ∙ sym (length-padded-text e))
-  length-text-by false e = ap length (text_in-clear e) ∙ sym (length-text_in-clear e)
+  length_text_by : (b : Bool) → z.encrypts ≡ b → length (text_of z xs) ≡ text_length z (length xs)
+  length_text_by true e = ap length (text-padded e) ∙ (length-padded (least_pad z.unit (length xs)) xs ∙ sym (length-padded-text e))
+  length_text_by false e = ap length (text_in_clear e) ∙ sym (length_text_in_clear e)
 
   pub length-text : length (text_of z xs) ≡ text_length z (length xs)
-  length-text = length-text-by z.encrypts refl
+  length-text = length_text_by z.encrypts refl
 
-  units-by : (t : Triple) (b : Bool) → z.encrypts ≡ b → Bounded t z → text_length z (length xs) % z.unit ≡ 0
-  units-by t true e bound =
-      ap (λ n. n % z.unit) (length-padded-text e) ∙ padded_length-multiple z.unit (length xs) bound.some-unit
-  units-by t false e bound =
-      ap (λ n. text_length z (length xs) % n) (bound.unit-in-clear e) ∙ mod-one (text_length z (length xs))
+  units_by : (t : Triple) (b : Bool) → z.encrypts ≡ b → Bounded t z → text_length z (length xs) % z.unit ≡ 0
+  units_by t true e bound =
+      ap (λ n. n % z.unit) (length-padded-text e) ∙ padded_length-multiple z.unit (length xs) bound.some_unit
+  units_by t false e bound =
+      ap (λ n. text_length z (length xs) % n) (bound.unit_in_clear e) ∙ mod-one (text_length z (length xs))
 
   -- a text has whole units
   pub text-units : (t : Triple) → Bounded t z → text_length z (length xs) % z.unit ≡ 0
-  text-units t bound = units-by t z.encrypts refl bound
+  text-units t bound = units_by t z.encrypts refl bound
 
-  octets-by : (b : Bool) → z.encrypts ≡ b → z.unit ≤ 16 → Octets xs → Octets (text_of z xs)
-  octets-by true e u bytes =
+  octets_by : (b : Bool) → z.encrypts ≡ b → z.unit ≤ 16 → Octets xs → Octets (text_of z xs)
+  octets_by true e u bytes =
       subst Octets (sym (text-padded e))
-      (octets-padded (least_pad z.unit (length xs)) xs (omega (arith, least_pad-at-most-15 z.unit (length xs) u)) bytes)
-  octets-by false e u bytes = subst Octets (sym (text_in-clear e)) bytes
+      (octets-padded (least_pad z.unit (length xs)) xs (omega (arith, least_pad_at_most_15 z.unit (length xs) u)) bytes)
+  octets_by false e u bytes = subst Octets (sym (text_in_clear e)) bytes
 
   pub octets-text : z.unit ≤ 16 → Octets xs → Octets (text_of z xs)
-  octets-text = octets-by z.encrypts refl
+  octets-text = octets_by z.encrypts refl

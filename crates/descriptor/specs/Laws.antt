@@ -21,7 +21,7 @@ pub record AllBytes (p : Protection) (vector xs : List ℕ) : Type 0 where
   pub salt : Octets p.salt.now
   pub integrity : Octets p.integrity.now
   pub vector-bytes : Octets vector
-  pub data-bytes : Octets xs
+  pub data_bytes : Octets xs
 
 -- what the suite takes, and what it opens, for the descriptor of a frame
 abbrev pub given_in : Protection → List ℕ → Frame → Sizes → Given
@@ -38,7 +38,7 @@ pub record SealingOf (m : Meaning) (p : Protection) (list : List ℕ) (f : Frame
   pub told : m.serves p.triple ≡ Some sizes
   pub text : List ℕ
   pub text-fits : Text sizes text
-  pub text-of-data : TextOf sizes xs text
+  pub text_of_data : TextOf sizes xs text
   pub sealed : m.sealed p.triple (given_in p list f sizes) text ≡ sealed_in list f sizes
   pub no_other : (ys other : List ℕ) → Text sizes other → TextOf sizes ys other
       → m.sealed p.triple (given_in p list f sizes) other ≡ sealed_in list f sizes → ys ≡ xs
@@ -46,9 +46,9 @@ pub record SealingOf (m : Meaning) (p : Protection) (list : List ℕ) (f : Frame
 -- in a list, with a data buffer no shorter than it and a work area of 240 bytes, a descriptor d opens to the data xs
 pub record OpensIn (m : Meaning) (p : Protection) (l : Label) (xs d pre post buffer work : List ℕ) : Type 0 where
   pub frame : Frame
-  pub framed-there : framed (pre ++ (d ++ post)) (length pre) (span_of l.form (length d)) ≡ Ok frame
-  pub own-sai : frame.sai ≡ l.sai
-  pub own-sqn : frame.sqn ≡ l.sqn
+  pub framed_there : framed (pre ++ (d ++ post)) (length pre) (span_of l.form (length d)) ≡ Ok frame
+  pub own_sai : frame.sai ≡ l.sai
+  pub own_sqn : frame.sqn ≡ l.sqn
   pub sizes : Sizes
   pub told : m.serves p.triple ≡ Some sizes
   pub opens : opening m p (pre ++ (d ++ post)) buffer work (length pre) (span_of l.form (length d)) ≡ opened xs (text_length sizes (length xs))

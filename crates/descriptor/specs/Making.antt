@@ -47,7 +47,7 @@ make_tests p form z s n out work =
 
 -- the facts at which none of these refusals fits
 pub record Makeable (p : Protection) (form : Form) (z : Sizes) (s n out work : ℕ) : Type 0 where
-  pub work-bytes : 240 ≤ work
+  pub work_bytes : 240 ≤ work
   pub key : length p.key.now ≡ p.triple.key
   pub salt : length p.salt.now ≡ z.salt
   pub integrity : length p.integrity.now ≡ z.integrity

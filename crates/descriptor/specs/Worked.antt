@@ -40,9 +40,9 @@ rows =
 abbrev pub stands : Row → Bool
 stands r = made_length r.form r.sizes r.count == r.whole && same (lead_of r.form r.whole) r.lead
 
-abbrev all-stand : List Row → Bool
-all-stand [] = true
-all-stand (r ∷ rs) = stands r && all-stand rs
+abbrev all_stand : List Row → Bool
+all_stand [] = true
+all_stand (r ∷ rs) = stands r && all_stand rs
 
 abbrev pub WorkedLengths : Type 0
-WorkedLengths = all-stand rows ≡ true
+WorkedLengths = all_stand rows ≡ true

@@ -4,14 +4,14 @@ use Rattle.fips197.specs.Field.{xtime, ◌•◌, powers, inverse}
 use Rattle.fips197.specs.Boxes.{affine, s_box, inv_s_box}
 use Rattle.fips197.proofs.Tests.{same-below, bounded-below}
 
-pub s_box-rule : (x : ℕ) → x < 256 → s_box x ≡ affine (inverse x)
+pub s_box_rule : (x : ℕ) → x < 256 → s_box x ≡ affine (inverse x)
 unfolding xtime ◌•◌ powers inverse affine s_box
-s_box-rule = same-below s_box (λ x. affine (inverse x)) 256 refl
+s_box_rule = same-below s_box (λ x. affine (inverse x)) 256 refl
 
 -- a byte times its inverse is 1, but zero's
-pub inverse-rule : (x : ℕ) → x < 256 → x • inverse x ≡ cond (eqb x 0) 0 1
+pub inverse_rule : (x : ℕ) → x < 256 → x • inverse x ≡ cond (eqb x 0) 0 1
 unfolding xtime ◌•◌ powers inverse
-inverse-rule = same-below (λ x. x • inverse x) (λ x. cond (eqb x 0) 0 1) 256 refl
+inverse_rule = same-below (λ x. x • inverse x) (λ x. cond (eqb x 0) 0 1) 256 refl
 
 pub s_box-lt : (x : ℕ) → x < 256 → s_box x < 256
 unfolding s_box

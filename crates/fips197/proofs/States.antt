@@ -4,7 +4,7 @@ use Rattle.std.specs.List.{range_with_len}
 use Rattle.std.proofs.lemmas.List.FromFn.{fill_by_all}
 use Rattle.std.proofs.lemmas.List.{length-map}
 use Rattle.octets.specs.Octets.{Octets}
-use Rattle.block.proofs.Sums.{length-xored, octets-xored, xored-twice}
+use Rattle.block.proofs.Sums.{length-xored, octets-xored, xored_twice}
 use Rattle.fips197.specs.Boxes.{s_box, inv_s_box}
 use Rattle.fips197.specs.State.{at, filled, mixed, inv_mixed, mix_by, sub_bytes, inv_sub_bytes, shift_rows, inv_shift_rows, mix_columns, inv_mix_columns, add_round_key}
 use Rattle.fips197.proofs.SBoxes.{s_box-lt, inv_s_box-lt, inv_s_box-s_box, s_box-inv_s_box}
@@ -56,65 +56,65 @@ octets-map : (f : ℕ → ℕ) → ((x : ℕ) → f x < 256) → (xs : List ℕ)
 octets-map f h [] = tt
 octets-map f h (x ∷ xs) = (h x, octets-map f h xs)
 
-pub octets-replaced : (f : ℕ → ℕ) → ((x : ℕ) → x < 256 → f x < 256) → (xs : List ℕ) → Octets xs → Octets (map f xs)
-octets-replaced f h [] o = tt
-octets-replaced f h (x ∷ xs) o = (h x o.0, octets-replaced f h xs o.1)
+pub octets_replaced : (f : ℕ → ℕ) → ((x : ℕ) → x < 256 → f x < 256) → (xs : List ℕ) → Octets xs → Octets (map f xs)
+octets_replaced f h [] o = tt
+octets_replaced f h (x ∷ xs) o = (h x o.0, octets_replaced f h xs o.1)
 
-state-filled : (f : ℕ → ℕ → ℕ) → ((r c : ℕ) → f r c < 256) → State (filled f)
-state-filled f h = record { sized = refl; bytes = octets-map (λ k. f (k % 4) (k / 4)) (λ k. h (k % 4) (k / 4)) (range_with_len 0 16) }
+state_filled : (f : ℕ → ℕ → ℕ) → ((r c : ℕ) → f r c < 256) → State (filled f)
+state_filled f h = record { sized = refl; bytes = octets-map (λ k. f (k % 4) (k / 4)) (λ k. h (k % 4) (k / 4)) (range_with_len 0 16) }
 
-state-replaced : (f : ℕ → ℕ) → ((x : ℕ) → x < 256 → f x < 256) → (s : List ℕ) → State s → State (map f s)
-state-replaced f h s st = record { sized = length-map s f ∙ st.sized; bytes = octets-replaced f h s st.bytes }
+state_replaced : (f : ℕ → ℕ) → ((x : ℕ) → x < 256 → f x < 256) → (s : List ℕ) → State s → State (map f s)
+state_replaced f h s st = record { sized = length-map s f ∙ st.sized; bytes = octets_replaced f h s st.bytes }
 
-state-mixed : (f : ℕ → ℕ → ℕ → ℕ → ℕ) → ((a b c d : ℕ) → a < 256 → b < 256 → c < 256 → d < 256 → f a b c d < 256) → (s : List ℕ) → State s → State (mix_by f s)
-state-mixed f h s st =
-    state-filled (λ r c. f (at s r c) (at s ((r + 1) % 4) c) (at s ((r + 2) % 4) c) (at s ((r + 3) % 4) c))
+state_mixed : (f : ℕ → ℕ → ℕ → ℕ → ℕ) → ((a b c d : ℕ) → a < 256 → b < 256 → c < 256 → d < 256 → f a b c d < 256) → (s : List ℕ) → State s → State (mix_by f s)
+state_mixed f h s st =
+    state_filled (λ r c. f (at s r c) (at s ((r + 1) % 4) c) (at s ((r + 2) % 4) c) (at s ((r + 3) % 4) c))
     (λ r c. h (at s r c) (at s ((r + 1) % 4) c) (at s ((r + 2) % 4) c) (at s ((r + 3) % 4) c)
     (get_or-lt s (4 * c + r) st.bytes) (get_or-lt s (4 * c + (r + 1) % 4) st.bytes)
     (get_or-lt s (4 * c + (r + 2) % 4) st.bytes) (get_or-lt s (4 * c + (r + 3) % 4) st.bytes))
 
-pub state-sub_bytes : (s : List ℕ) → State s → State (sub_bytes s)
+pub state_sub_bytes : (s : List ℕ) → State s → State (sub_bytes s)
 unfolding sub_bytes
-state-sub_bytes s st = state-replaced s_box s_box-lt s st
+state_sub_bytes s st = state_replaced s_box s_box-lt s st
 
-pub state-inv_sub_bytes : (s : List ℕ) → State s → State (inv_sub_bytes s)
+pub state_inv_sub_bytes : (s : List ℕ) → State s → State (inv_sub_bytes s)
 unfolding inv_sub_bytes
-state-inv_sub_bytes s st = state-replaced inv_s_box inv_s_box-lt s st
+state_inv_sub_bytes s st = state_replaced inv_s_box inv_s_box-lt s st
 
-pub state-shift_rows : (s : List ℕ) → State s → State (shift_rows s)
+pub state_shift_rows : (s : List ℕ) → State s → State (shift_rows s)
 unfolding shift_rows
-state-shift_rows s st = state-filled (λ r c. at s r ((c + r) % 4)) (λ r c. get_or-lt s (4 * ((c + r) % 4) + r) st.bytes)
+state_shift_rows s st = state_filled (λ r c. at s r ((c + r) % 4)) (λ r c. get_or-lt s (4 * ((c + r) % 4) + r) st.bytes)
 
-pub state-inv_shift_rows : (s : List ℕ) → State s → State (inv_shift_rows s)
+pub state_inv_shift_rows : (s : List ℕ) → State s → State (inv_shift_rows s)
 unfolding inv_shift_rows
-state-inv_shift_rows s st = state-filled (λ r c. at s r ((c + 4 - r) % 4)) (λ r c. get_or-lt s (4 * ((c + 4 - r) % 4) + r) st.bytes)
+state_inv_shift_rows s st = state_filled (λ r c. at s r ((c + 4 - r) % 4)) (λ r c. get_or-lt s (4 * ((c + 4 - r) % 4) + r) st.bytes)
 
-pub state-mix_columns : (s : List ℕ) → State s → State (mix_columns s)
+pub state_mix_columns : (s : List ℕ) → State s → State (mix_columns s)
 unfolding mix_columns
-state-mix_columns s st = state-mixed mixed mixed-lt s st
+state_mix_columns s st = state_mixed mixed mixed-lt s st
 
-pub state-inv_mix_columns : (s : List ℕ) → State s → State (inv_mix_columns s)
+pub state_inv_mix_columns : (s : List ℕ) → State s → State (inv_mix_columns s)
 unfolding inv_mix_columns
-state-inv_mix_columns s st = state-mixed inv_mixed inv_mixed-lt s st
+state_inv_mix_columns s st = state_mixed inv_mixed inv_mixed-lt s st
 
-pub state-add_round_key : (k s : List ℕ) → Octets k → State s → State (add_round_key k s)
+pub state_add_round_key : (k s : List ℕ) → Octets k → State s → State (add_round_key k s)
 unfolding add_round_key
-state-add_round_key k s o st = record { sized = length-xored s k ∙ st.sized; bytes = octets-xored s k st.bytes o }
+state_add_round_key k s o st = record { sized = length-xored s k ∙ st.sized; bytes = octets-xored s k st.bytes o }
 
 -- inverses
 
-replaced-back : (f g : ℕ → ℕ) → ((x : ℕ) → x < 256 → g (f x) ≡ x) → (xs : List ℕ) → Octets xs → map g (map f xs) ≡ xs
-replaced-back f g h [] o = refl
-replaced-back f g h (x ∷ xs) o =
-    ap (λ y. y ∷ map g (map f xs)) (h x o.0) ∙ ap (λ ys. x ∷ ys) (replaced-back f g h xs o.1)
+replaced_back : (f g : ℕ → ℕ) → ((x : ℕ) → x < 256 → g (f x) ≡ x) → (xs : List ℕ) → Octets xs → map g (map f xs) ≡ xs
+replaced_back f g h [] o = refl
+replaced_back f g h (x ∷ xs) o =
+    ap (λ y. y ∷ map g (map f xs)) (h x o.0) ∙ ap (λ ys. x ∷ ys) (replaced_back f g h xs o.1)
 
 pub inv_sub_bytes-sub_bytes : (s : List ℕ) → State s → inv_sub_bytes (sub_bytes s) ≡ s
 unfolding sub_bytes inv_sub_bytes
-inv_sub_bytes-sub_bytes s st = replaced-back s_box inv_s_box inv_s_box-s_box s st.bytes
+inv_sub_bytes-sub_bytes s st = replaced_back s_box inv_s_box inv_s_box-s_box s st.bytes
 
 pub sub_bytes-inv_sub_bytes : (s : List ℕ) → State s → sub_bytes (inv_sub_bytes s) ≡ s
 unfolding sub_bytes inv_sub_bytes
-sub_bytes-inv_sub_bytes s st = replaced-back inv_s_box s_box s_box-inv_s_box s st.bytes
+sub_bytes-inv_sub_bytes s st = replaced_back inv_s_box s_box s_box-inv_s_box s st.bytes
 
 pub inv_shift_rows-shift_rows : (s : List ℕ) → State s → inv_shift_rows (shift_rows s) ≡ s
 unfolding shift_rows inv_shift_rows
@@ -126,8 +126,8 @@ unfolding shift_rows inv_shift_rows
 shift_rows-inv_shift_rows s st =
     sixteen (λ u. shift_rows (inv_shift_rows u) ≡ u) (λ a₀ a₁ a₂ a₃ b₀ b₁ b₂ b₃ c₀ c₁ c₂ c₃ d₀ d₁ d₂ d₃. refl) s st.sized
 
-mixed-back : (f g : ℕ → ℕ → ℕ → ℕ → ℕ) → Undoes f g → (s : List ℕ) → length s ≡ 16 → Octets s → mix_by f (mix_by g s) ≡ s
-mixed-back f g u =
+mixed_back : (f g : ℕ → ℕ → ℕ → ℕ → ℕ) → Undoes f g → (s : List ℕ) → length s ≡ 16 → Octets s → mix_by f (mix_by g s) ≡ s
+mixed_back f g u =
     sixteen (λ s. Octets s → mix_by f (mix_by g s) ≡ s)
     (λ a₀ a₁ a₂ a₃ b₀ b₁ b₂ b₃ c₀ c₁ c₂ c₃ d₀ d₁ d₂ d₃ o.
     cons (u a₀ a₁ a₂ a₃ o.0 o.1.0 o.1.1.0 o.1.1.1.0)
@@ -150,12 +150,12 @@ mixed-back f g u =
 
 pub inv_mix_columns-mix_columns : (s : List ℕ) → State s → inv_mix_columns (mix_columns s) ≡ s
 unfolding mix_columns inv_mix_columns
-inv_mix_columns-mix_columns s st = mixed-back inv_mixed mixed unmixed s st.sized st.bytes
+inv_mix_columns-mix_columns s st = mixed_back inv_mixed mixed unmixed s st.sized st.bytes
 
 pub mix_columns-inv_mix_columns : (s : List ℕ) → State s → mix_columns (inv_mix_columns s) ≡ s
 unfolding mix_columns inv_mix_columns
-mix_columns-inv_mix_columns s st = mixed-back mixed inv_mixed remixed s st.sized st.bytes
+mix_columns-inv_mix_columns s st = mixed_back mixed inv_mixed remixed s st.sized st.bytes
 
-pub add_round_key-twice : (k s : List ℕ) → add_round_key k (add_round_key k s) ≡ s
+pub add_round_key_twice : (k s : List ℕ) → add_round_key k (add_round_key k s) ≡ s
 unfolding add_round_key
-add_round_key-twice k s = xored-twice s k
+add_round_key_twice k s = xored_twice s k

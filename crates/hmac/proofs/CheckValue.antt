@@ -2,7 +2,7 @@
 use Rattle.std.proofs.Common.{◌≡◌, ℕ, List, ◌++◌, length, ap, ◌∙◌}
 use Rattle.std.proofs.lemmas.List.{length-replicate}
 use Rattle.octets.specs.Octets.{Octets, over, zeros}
-use Rattle.octets.proofs.Octets.{over-all}
+use Rattle.octets.proofs.Octets.{over_all}
 use Rattle.hmac.specs.Hmac.{ipad, opad, padded, key_block, hmac}
 
 -- `sized` and `bytes` are laws of the hash
@@ -28,4 +28,4 @@ pub keyed :
 unfolding hmac
 keyed digest inner outer block size key sized i o x =
     let n : length (inner x) ≡ length (zeros size) = simp length-replicate (ap length (i x) ∙ sized _) in
-    ap outer (over-all (inner x) (zeros size) n ∙ i x) ∙ o (digest (padded ipad (key_block digest block key) ++ x))
+    ap outer (over_all (inner x) (zeros size) n ∙ i x) ∙ o (digest (padded ipad (key_block digest block key) ++ x))

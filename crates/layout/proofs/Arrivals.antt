@@ -11,11 +11,11 @@ use Rattle.layout.specs.declared.form.Span.{Span}
 use Rattle.layout.specs.declared.frame.Frame.{Frame}
 use Rattle.layout.specs.Layout.{form_of, head_of, lead}
 use Rattle.layout.specs.Frame.{Within, frame_at, frame_tests, framed, number_at, reach, sqn_end}
-use Rattle.layout.proofs.Refusals.{Passed, passed-from-ok}
+use Rattle.layout.proofs.Refusals.{Passed, passed_from_ok}
 
 -- the bytes at a place, from the number that they write
-bytes-at : (k : ℕ) (list : List ℕ) (at : ℕ) → Octets list → at + k ≤ length list → big_endian k (number_at k list at) ≡ take k (drop at list)
-bytes-at k list at h fits =
+bytes_at : (k : ℕ) (list : List ℕ) (at : ℕ) → Octets list → at + k ≤ length list → big_endian k (number_at k list at) ≡ take k (drop at list)
+bytes_at k list at h fits =
     let part : List ℕ = take k (drop at list) in
     let whole : length part ≡ k = length-take-le k (drop at list) (omega (arith, length-drop at list)) in
     let byte : ℕ → Type 0 = λ x. x < 256 in
@@ -27,8 +27,8 @@ both-same e f = cc
 -- SAI and SQN as they stand in the list are the head
 head_bytes : (list : List ℕ) (at : ℕ) → Octets list → at + 12 ≤ length list → between at (at + 12) list ≡ head_of (number_at 4 list at) (number_at 8 list (at + 4))
 head_bytes list at h fits =
-    let a = bytes-at 4 list at h (omega arith) in
-    let b = bytes-at 8 list (at + 4) h (omega arith) in
+    let a = bytes_at 4 list at h (omega arith) in
+    let b = bytes_at 8 list (at + 4) h (omega arith) in
     let twelve : at + 12 - at ≡ 12 = omega arith in
     ap (λ n. take n (drop at list)) twelve ∙ take-add 4 8 (drop at list)
     ∙ ap (λ l. take 4 (drop at list) ++ take 8 l) (drop-drop 4 at list) ∙ sym (both-same a b)
@@ -38,7 +38,7 @@ fits-length r m n k e = let h = or_parts (ltb r m) (ltb n k) e in (ltb-false r m
 
 module _ (list : List ℕ) (place : ℕ) (span : Span) (frame : Frame) (is : framed list place span ≡ Ok frame) where
   passed : Passed (frame_tests list place span) × (frame ≡ frame_at list place span)
-  passed = passed-from-ok (frame_tests list place span) (frame_at list place span) frame is
+  passed = passed_from_ok (frame_tests list place span) (frame_at list place span) frame is
 
   pub frame_is : frame ≡ frame_at list place span
   frame_is = passed.1
@@ -46,7 +46,7 @@ module _ (list : List ℕ) (place : ℕ) (span : Span) (frame : Frame) (is : fra
   pub frame-within : Within list frame
   frame-within =
       let h = fits-length (reach list place span) (sqn_end span) (length list) (place + reach list place span) passed.0.1.0 in
-      rw frame_is (record { sqn-before-end = omega arith; end-in-list = h.1 })
+      rw frame_is (record { sqn_before_end = omega arith; end_in_list = h.1 })
 
   pub head-stands : Octets list → between frame.head (frame.head + 12) list ≡ head_of frame.sai frame.sqn
   head-stands h =

@@ -16,10 +16,10 @@ module _ {X F : Type 0} where
   judged-passed [] x h = refl
   judged-passed (test ∷ tests) x h = one_more test tests x false h.0 ∙ judged-passed tests x h.1
 
-  pub passed-from-ok : (tests : List (Test F)) (x y : X) → judged (first_fit tests) x ≡ Ok y → Passed tests × (y ≡ x)
-  passed-from-ok [] x y e = (tt, cc)
-  passed-from-ok (test ∷ tests) x y e =
+  pub passed_from_ok : (tests : List (Test F)) (x y : X) → judged (first_fit tests) x ≡ Ok y → Passed tests × (y ≡ x)
+  passed_from_ok [] x y e = (tt, cc)
+  passed_from_ok (test ∷ tests) x y e =
       ⊎_elim
       (λ fits. absurd (let r = one_more test tests x true fits in let z : ◌≡◌ {A = ℕ} 0 1 = cc in omega arith))
-      (λ not. let rest = passed-from-ok tests x y (sym (one_more test tests x false not) ∙ e) in ((not, rest.0), rest.1))
+      (λ not. let rest = passed_from_ok tests x y (sym (one_more test tests x false not) ∙ e) in ((not, rest.0), rest.1))
       (cases_Bool test.fits)

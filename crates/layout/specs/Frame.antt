@@ -57,8 +57,8 @@ abbrev pub framed : List ℕ → ℕ → Span → Result Frame Fault
 framed list place span = judged (first_fit (frame_tests list place span)) (frame_at list place span)
 
 pub record Within (list : List ℕ) (frame : Frame) : Type 0 where
-  pub sqn-before-end : frame.head + 12 ≤ frame.end
-  pub end-in-list : frame.end ≤ length list
+  pub sqn_before_end : frame.head + 12 ≤ frame.end
+  pub end_in_list : frame.end ≤ length list
 
 abbrev pub protected_length : Frame → ℕ → ℕ → ℕ
 protected_length frame s c = frame.end - (frame.head + 12 + s + c)
@@ -83,8 +83,8 @@ abbrev pub parted : Frame → ℕ → ℕ → ℕ → Bool → Result Places Fau
 parted frame s c u encrypts = judged (first_fit (part_tests frame s c u encrypts)) (parts_at frame s c)
 
 pub record InARow (frame : Frame) (s c : ℕ) (places : Places) : Type 0 where
-  pub vector-after-sqn : places.vector ≡ frame.head + 12
-  pub protected-after-vector : places.protected ≡ places.vector + s
-  pub check-after-protected : places.protected ≤ places.check
-  pub check-to-end : places.check + c ≡ places.end
-  pub end-of-frame : places.end ≡ frame.end
+  pub vector-after_sqn : places.vector ≡ frame.head + 12
+  pub protected_after-vector : places.protected ≡ places.vector + s
+  pub check-after_protected : places.protected ≤ places.check
+  pub check_to_end : places.check + c ≡ places.end
+  pub end_of_frame : places.end ≡ frame.end

@@ -20,22 +20,22 @@ pub octets-big_endian : (k n : ℕ) → Octets (big_endian k n)
 octets-big_endian zero n = tt
 octets-big_endian (suc k) n = All-push (λ x. x < 256) (big_endian k (n / 256)) (n % 256) (octets-big_endian k (n / 256)) (omega arith)
 
-pow-256 : (k : ℕ) → 0 < 256 ^ k
-pow-256 zero = omega arith
-pow-256 (suc k) = let h = pow-256 k in rw pow-suc (omega arith)
+pow_256 : (k : ℕ) → 0 < 256 ^ k
+pow_256 zero = omega arith
+pow_256 (suc k) = let h = pow_256 k in rw pow-suc (omega arith)
 
 -- the number of the k bytes of n is n, as far as k bytes reach
-pub number-big_endian-mod : (k n : ℕ) → number (big_endian k n) ≡ n % 256 ^ k
-number-big_endian-mod zero n = omega arith
-number-big_endian-mod (suc k) n =
+pub number-big_endian_mod : (k n : ℕ) → number (big_endian k n) ≡ n % 256 ^ k
+number-big_endian_mod zero n = omega arith
+number-big_endian_mod (suc k) n =
     number_push 256 (big_endian k (n / 256)) (n % 256)
-    ∙ rw (number-big_endian-mod k (n / 256), pow-suc) (sym (mod-mul n (pow-256 k) (omega arith)))
+    ∙ rw (number-big_endian_mod k (n / 256), pow-suc) (sym (mod-mul n (pow_256 k) (omega arith)))
 
 pub number-big_endian : (k n : ℕ) → n < 256 ^ k → number (big_endian k n) ≡ n
-number-big_endian k n h = number-big_endian-mod k n ∙ mod-eq_of_lt h
+number-big_endian k n h = number-big_endian_mod k n ∙ mod-eq_of_lt h
 
-pub big_endian-push : (k n d : ℕ) → d < 256 → big_endian (suc k) (n * 256 + d) ≡ big_endian k n ++ (d ∷ [])
-big_endian-push k n d h = rw (div-mul-add n 256 d h, mod-mul-add n 256 d h)
+pub big_endian_push : (k n d : ℕ) → d < 256 → big_endian (suc k) (n * 256 + d) ≡ big_endian k n ++ (d ∷ [])
+big_endian_push k n d h = rw (div-mul-add n 256 d h, mod-mul-add n 256 d h)
 
 bytes_of : (k : ℕ) (xs : List ℕ) → length xs ≡ k → Octets xs → big_endian k (number xs) ≡ xs
 bytes_of zero xs e h = sym (nil_from_length xs e)
@@ -46,7 +46,7 @@ bytes_of (suc k) xs e h =
     let byte : d < 256 = All-get_or (λ x. x < 256) xs k 0 (omega arith) h in
     ap (λ zs. big_endian (suc k) (number zs)) split
     ∙ ap (big_endian (suc k)) (number_push 256 (take k xs) d)
-    ∙ big_endian-push k (number (take k xs)) d byte
+    ∙ big_endian_push k (number (take k xs)) d byte
     ∙ ap (λ zs. zs ++ (d ∷ [])) front
     ∙ sym split
 
@@ -54,12 +54,12 @@ bytes_of (suc k) xs e h =
 pub big_endian-number : (xs : List ℕ) → Octets xs → big_endian (length xs) (number xs) ≡ xs
 big_endian-number xs h = bytes_of (length xs) xs refl h
 
-number_after-is : (n : ℕ) (ys : List ℕ) → number_from_digits_after 256 n ys ≡ n * 256 ^ length ys + number ys
-number_after-is n [] = omega arith
-number_after-is n (y ∷ ys) =
+number_after_is : (n : ℕ) (ys : List ℕ) → number_from_digits_after 256 n ys ≡ n * 256 ^ length ys + number ys
+number_after_is n [] = omega arith
+number_after_is n (y ∷ ys) =
     let p = 256 ^ length ys in
-    let this = number_after-is (n * 256 + y) ys in
-    let alone = number_after-is (0 + y) ys in
+    let this = number_after_is (n * 256 + y) ys in
+    let alone = number_after_is (0 + y) ys in
     rw (pow-suc 256 (length ys)) (omega (arith, add-mul (n * 256) y p, mul_assoc n 256 p, mul_comm 256 p, zero-add y))
 
 -- the first byte
@@ -86,15 +86,15 @@ abbrev pub elements : List ℕ → ℕ → ℕ → List ℕ
 elements xs i zero = []
 elements xs i (suc k) = get_or xs i 0 ∷ elements xs (suc i) k
 
-pub elements-are : (xs : List ℕ) (i k : ℕ) → i + k ≡ length xs → elements xs i k ≡ drop i xs
-elements-are xs i zero e = sym (drop_all i xs (omega arith))
-elements-are xs i (suc k) e =
-    ap (λ zs. get_or xs i 0 ∷ zs) (elements-are xs (suc i) k (omega arith)) ∙ sym (drop-cons xs i 0 (omega arith))
+pub elements_are : (xs : List ℕ) (i k : ℕ) → i + k ≡ length xs → elements xs i k ≡ drop i xs
+elements_are xs i zero e = sym (drop_all i xs (omega arith))
+elements_are xs i (suc k) e =
+    ap (λ zs. get_or xs i 0 ∷ zs) (elements_are xs (suc i) k (omega arith)) ∙ sym (drop-cons xs i 0 (omega arith))
 
 -- a field that is there, from a read of each of its bytes
-pub field-read : (k : ℕ) (xs : List ℕ) (at n : ℕ) → at + k ≤ length xs → n ≡ number (elements (take (at + k - at) (drop at xs)) 0 k) → Some n ≡ field k xs at
-field-read k xs at n h e =
+pub field_read : (k : ℕ) (xs : List ℕ) (at n : ℕ) → at + k ≤ length xs → n ≡ number (elements (take (at + k - at) (drop at xs)) 0 k) → Some n ≡ field k xs at
+field_read k xs at n h e =
     let part = take (at + k - at) (drop at xs) in
     let all : 0 + k ≡ length part = simp (length-take, length-drop) (omega arith) in
-    ap Some (e ∙ ap number (elements-are part 0 k all ∙ ap (λ m. take m (drop at xs)) (omega arith)))
+    ap Some (e ∙ ap number (elements_are part 0 k all ∙ ap (λ m. take m (drop at xs)) (omega arith)))
     ∙ sym (cond-true (leb (at + k) (length xs)) _ _ (le-leb (at + k) (length xs) h))

@@ -26,11 +26,11 @@ over-nil ys = ap (λ zs. zs ++ ys) (take-nil (length ys))
 pub over-fits : (xs ys : List ℕ) → length xs ≤ length ys → over xs ys ≡ xs ++ drop (length xs) ys
 over-fits xs ys h = rw (take_all (length ys) xs h)
 
-pub over-past : (xs ys : List ℕ) → length ys ≤ length xs → over xs ys ≡ take (length ys) xs
-over-past xs ys h = rw (drop_all (length xs) ys h, append-nil)
+pub over_past : (xs ys : List ℕ) → length ys ≤ length xs → over xs ys ≡ take (length ys) xs
+over_past xs ys h = rw (drop_all (length xs) ys h, append-nil)
 
-pub over-all : (xs ys : List ℕ) → length xs ≡ length ys → over xs ys ≡ xs
-over-all xs ys e = over-past xs ys (omega arith) ∙ take_all (length ys) xs (omega arith)
+pub over_all : (xs ys : List ℕ) → length xs ≡ length ys → over xs ys ≡ xs
+over_all xs ys e = over_past xs ys (omega arith) ∙ take_all (length ys) xs (omega arith)
 
 pub take-over : (n : ℕ) (xs ys : List ℕ) → take n (over xs ys) ≡ over (take n xs) (take n ys)
 take-over zero xs ys = refl
@@ -53,8 +53,8 @@ drop-over-rest xs ys =
     drop-over (length xs) xs ys ∙ rw (drop_all (length xs) xs (omega arith)) (over-nil (drop (length xs) ys))
 
 -- the part that is written, as far as both reach, and what is left of the buffer
-pub over-part : (n : ℕ) (zs xs ys : List ℕ) → n ≡ min (length xs) (length ys) → zs ≡ take (n - 0) xs → zs ++ drop (n - 0) ys ≡ over xs ys
-over-part n zs xs ys e f =
+pub over_part : (n : ℕ) (zs xs ys : List ℕ) → n ≡ min (length xs) (length ys) → zs ≡ take (n - 0) xs → zs ++ drop (n - 0) ys ≡ over xs ys
+over_part n zs xs ys e f =
     ⊎_elim
     (λ h. let k : n - 0 ≡ length ys = omega arith in
     rw (f, k, drop_all (length ys) ys (omega arith), drop_all (length xs) ys (omega arith)))
@@ -79,13 +79,13 @@ pub wiped-fits : (n : ℕ) (ys : List ℕ) → n ≤ length ys → wiped n ys �
 wiped-fits n ys h =
     over-fits (zeros n) ys (simp length-replicate h) ∙ ap (λ k. zeros n ++ drop k ys) (length-replicate n 0)
 
-pub wiped-all : (n : ℕ) (ys : List ℕ) → length ys ≤ n → wiped n ys ≡ zeros (length ys)
-wiped-all n ys h = over-past (zeros n) ys (simp length-replicate h) ∙ take-replicate (length ys) n 0 h
+pub wiped_all : (n : ℕ) (ys : List ℕ) → length ys ≤ n → wiped n ys ≡ zeros (length ys)
+wiped_all n ys h = over_past (zeros n) ys (simp length-replicate h) ∙ take-replicate (length ys) n 0 h
 
-pub wiped-part : (n k : ℕ) (zs ys : List ℕ) → n ≡ min k (length ys) → zs ≡ replicate (length (take (n - 0) ys)) 0 → zs ++ drop (n - 0) ys ≡ wiped k ys
-wiped-part n k zs ys e f =
+pub wiped_part : (n k : ℕ) (zs ys : List ℕ) → n ≡ min k (length ys) → zs ≡ replicate (length (take (n - 0) ys)) 0 → zs ++ drop (n - 0) ys ≡ wiped k ys
+wiped_part n k zs ys e f =
     let m : length (take (n - 0) ys) ≡ n - 0 = simp length-take (omega arith) in
-    over-part n zs (zeros k) ys (simp length-replicate e)
+    over_part n zs (zeros k) ys (simp length-replicate e)
     (f ∙ ap zeros m ∙ sym (take-replicate (n - 0) k 0 (omega arith)))
 
 -- `placed`
@@ -93,8 +93,8 @@ wiped-part n k zs ys e f =
 pub placed-fits : (at : ℕ) (xs ys : List ℕ) → at + length xs ≤ length ys → placed at xs ys ≡ take at ys ++ (xs ++ drop (at + length xs) ys)
 placed-fits at xs ys h = cond-true _ _ _ (le-leb _ _ h)
 
-pub placed-part : (at k : ℕ) (zs xs ys : List ℕ) → at + length xs ≤ length ys → k ≡ length xs → zs ≡ xs → put_mid at k ys zs ≡ placed at xs ys
-placed-part at k zs xs ys h e f = rw (e, f, drop-drop) (sym (placed-fits at xs ys h))
+pub placed_part : (at k : ℕ) (zs xs ys : List ℕ) → at + length xs ≤ length ys → k ≡ length xs → zs ≡ xs → put_mid at k ys zs ≡ placed at xs ys
+placed_part at k zs xs ys h e f = rw (e, f, drop-drop) (sym (placed-fits at xs ys h))
 
 pub length-placed : (at : ℕ) (xs ys : List ℕ) → length (placed at xs ys) ≡ length ys
 length-placed at xs ys =
@@ -105,8 +105,8 @@ length-placed at xs ys =
     (λ e. refl)
 
 -- what is written right behind xs, where xs was written over the start
-pub placed-behind : (at : ℕ) (xs ys out : List ℕ) → length xs ≡ at → at + length ys ≤ length out → placed at ys (over xs out) ≡ over (xs ++ ys) out
-placed-behind at xs ys out e room =
+pub placed_behind : (at : ℕ) (xs ys out : List ℕ) → length xs ≡ at → at + length ys ≤ length out → placed at ys (over xs out) ≡ over (xs ++ ys) out
+placed_behind at xs ys out e room =
     let rest = drop (length xs) out in
     let fits : at + length ys ≤ length (xs ++ rest) = simp (length-append, length-drop) (omega arith) in
     let behind : drop (at + length ys) (xs ++ rest) ≡ drop (length (xs ++ ys)) out =
@@ -137,16 +137,16 @@ and_assoc : (a b c : Bool) → (a && b) && c ≡ a && (b && c)
 and_assoc true b c = refl
 and_assoc false b c = refl
 
-and-true : (b : Bool) → b && true ≡ b
-and-true true = refl
-and-true false = refl
+and_true : (b : Bool) → b && true ≡ b
+and_true true = refl
+and_true false = refl
 
-pub same-push : (xs ys : List ℕ) (x y : ℕ) → length xs ≡ length ys → same (xs ++ (x ∷ [])) (ys ++ (y ∷ [])) ≡ same xs ys && eqb x y
-same-push [] [] x y e = and-true (eqb x y)
-same-push [] (b ∷ ys) x y e = absurd (omega arith)
-same-push (a ∷ xs) [] x y e = absurd (omega arith)
-same-push (a ∷ xs) (b ∷ ys) x y e =
-    ap (λ t. eqb a b && t) (same-push xs ys x y (omega arith)) ∙ sym (and_assoc (eqb a b) (same xs ys) (eqb x y))
+pub same_push : (xs ys : List ℕ) (x y : ℕ) → length xs ≡ length ys → same (xs ++ (x ∷ [])) (ys ++ (y ∷ [])) ≡ same xs ys && eqb x y
+same_push [] [] x y e = and_true (eqb x y)
+same_push [] (b ∷ ys) x y e = absurd (omega arith)
+same_push (a ∷ xs) [] x y e = absurd (omega arith)
+same_push (a ∷ xs) (b ∷ ys) x y e =
+    ap (λ t. eqb a b && t) (same_push xs ys x y (omega arith)) ∙ sym (and_assoc (eqb a b) (same xs ys) (eqb x y))
 
 -- the step of a comparison: the differences so far, and those of one more pair of bytes
 pub no_difference : (d x y : ℕ) → eqb (bit_or d (bit_xor x y)) 0 ≡ eqb d 0 && eqb x y
@@ -163,6 +163,6 @@ no_difference d x y =
 pub same_more : (xs ys : List ℕ) (i d : ℕ) → length xs ≡ length ys → i < length xs → same (take i xs) (take i ys) ≡ eqb d 0 → same (take (i + 1) xs) (take (i + 1) ys) ≡ eqb (bit_or d (bit_xor (get_or xs i 0) (get_or ys i 0))) 0
 same_more xs ys i d e h so =
     rw (take_more xs i 0 h, take_more ys i 0 (omega arith))
-    (same-push (take i xs) (take i ys) (get_or xs i 0) (get_or ys i 0) (simp length-take (omega arith))
+    (same_push (take i xs) (take i ys) (get_or xs i 0) (get_or ys i 0) (simp length-take (omega arith))
     ∙ ap (λ t. t && eqb (get_or xs i 0) (get_or ys i 0)) so
     ∙ sym (no_difference d (get_or xs i 0) (get_or ys i 0)))

@@ -28,12 +28,12 @@ module _ (p : ℕ) (xs : List ℕ) where
       (and_from _ _ (le-leb p 255 h) (and_from _ _ (le-leb _ _ (omega arith)) (same_refl (trailer p))))
 
 -- what unpadding gives, by whether the trailer is right
-by-trailer : (text : List ℕ) (b : Bool) → well_padded text ≡ b → unpadded text ≡ cut (cond b (Some (data_end text)) None) text
-by-trailer text b e = ap (λ t. cut (cond t (Some (data_end text)) None) text) e
+by_trailer : (text : List ℕ) (b : Bool) → well_padded text ≡ b → unpadded text ≡ cut (cond b (Some (data_end text)) None) text
+by_trailer text b e = ap (λ t. cut (cond t (Some (data_end text)) None) text) e
 
 pub unpadded-padded : (p : ℕ) (xs : List ℕ) → p ≤ 255 → unpadded (padded p xs) ≡ Some xs
 unpadded-padded p xs h =
-    by-trailer (padded p xs) true (well_padded-padded p xs h)
+    by_trailer (padded p xs) true (well_padded-padded p xs h)
     ∙ ap Some (ap (λ n. take n (padded p xs)) (data_end-padded p xs) ∙ take_at xs (trailer p) (length xs) refl)
 
 pub undoes-padding : (xs text : List ℕ) (p : ℕ) → Padded xs p text → unpadded text ≡ Some xs
@@ -43,7 +43,7 @@ pub undoes-only-padding : (xs text : List ℕ) → unpadded text ≡ Some xs →
 undoes-only-padding xs text h =
     ⊎_elim
     (λ right.
-    let front : take (data_end text) text ≡ xs = let e = by-trailer text true right in cc in
+    let front : take (data_end text) text ≡ xs = let e = by_trailer text true right in cc in
     let parts = and_parts _ _ right in
     let rest = and_parts _ _ parts.1 in (
       pad_length text,
@@ -52,28 +52,28 @@ undoes-only-padding xs text h =
         is = sym (take-append-drop (data_end text) text) ∙ ap (λ ys. take (data_end text) text ++ ys) (same_true _ _ rest.1) ∙ ap (λ ys. ys ++ trailer (pad_length text)) front;
       },
     ))
-    (λ wrong. absurd (let e = by-trailer text false wrong in let z : ◌≡◌ {A = ℕ} 0 1 = cc in omega arith))
+    (λ wrong. absurd (let e = by_trailer text false wrong in let z : ◌≡◌ {A = ℕ} 0 1 = cc in omega arith))
     (cases_Bool (well_padded text))
 
-pub padded-one-way : (xs ys text : List ℕ) (p q : ℕ) → Padded xs p text → Padded ys q text → (xs ≡ ys) × (p ≡ q)
-padded-one-way xs ys text p q h k =
+pub padded_one_way : (xs ys text : List ℕ) (p q : ℕ) → Padded xs p text → Padded ys q text → (xs ≡ ys) × (p ≡ q)
+padded_one_way xs ys text p q h k =
     let number : p ≡ q = sym (pad_length-padded p xs) ∙ ap pad_length (sym h.is ∙ k.is) ∙ pad_length-padded q ys in
     (append_cancel_right xs ys (trailer q) (ap (λ n. xs ++ trailer n) (sym number) ∙ sym h.is ∙ k.is), number)
 
 pub lawful : Lawful
-lawful = record { undoes-padding = undoes-padding; undoes-only-padding = undoes-only-padding; padded-one-way = padded-one-way }
+lawful = record { undoes-padding = undoes-padding; undoes-only-padding = undoes-only-padding; padded_one_way = padded_one_way }
 
 -- what a caller has to know to go on: where the data end, and that all stays bytes
 
 pub data_length-within : (text : List ℕ) (n : ℕ) → data_length text ≡ Some n → n + 2 ≤ length text
 data_length-within text n h = grind (arith, nat_tests)
 
-octets-counting : (a n : ℕ) → a + n ≤ 256 → Octets (range_with_len a n)
-octets-counting a zero h = tt
-octets-counting a (suc n) h = (omega arith, octets-counting (a + 1) n (omega arith))
+octets_counting : (a n : ℕ) → a + n ≤ 256 → Octets (range_with_len a n)
+octets_counting a zero h = tt
+octets_counting a (suc n) h = (omega arith, octets_counting (a + 1) n (omega arith))
 
 pub octets-trailer : (p : ℕ) → p ≤ 255 → Octets (trailer p)
-octets-trailer p h = All-append (λ x. x < 256) (ramp p) (p ∷ 0 ∷ []) (octets-counting 1 p (omega arith)) (omega arith, (omega arith, tt))
+octets-trailer p h = All-append (λ x. x < 256) (ramp p) (p ∷ 0 ∷ []) (octets_counting 1 p (omega arith)) (omega arith, (omega arith, tt))
 
 pub octets-padded : (p : ℕ) (xs : List ℕ) → p ≤ 255 → Octets xs → Octets (padded p xs)
 octets-padded p xs h k = All-append (λ x. x < 256) xs (trailer p) k (octets-trailer p h)

@@ -24,8 +24,8 @@ module _ (u n : ℕ) (unit : 0 < u) where
   pad_to-below = mod-lt (u - (n + 2) % u) unit
 
   -- a number of padding bytes below the unit that fills units is the least that does
-  least-if-below : (p : ℕ) → p < u → Fills u n p → LeastFill u n p
-  least-if-below p h e =
+  least_if_below : (p : ℕ) → p < u → Fills u n p → LeastFill u n p
+  least_if_below p h e =
       record {
         fills = e;
         least = λ q f. no_less u (n + 2) p q ((n + p + 2) / u) ((n + q + 2) / u) h
@@ -40,23 +40,23 @@ module _ (u n : ℕ) (unit : 0 < u) where
       ∙ sym (mod-add-mod (n + 2) u (u - r)) ∙ same_rest (r + (u - r)) u u (omega arith) ∙ mod_self u
 
   -- found from the remainder of n alone: with the padding and two bytes it makes k units
-  fills-from-rest : (p k : ℕ) → n % u + (p + 2) ≡ k * u → Fills u n p
-  fills-from-rest p k rest =
+  fills_from_rest : (p k : ℕ) → n % u + (p + 2) ≡ k * u → Fills u n p
+  fills_from_rest p k rest =
       same_rest (n + p + 2) (n + (p + 2)) u (omega arith) ∙ sym (mod-add-mod n u (p + 2))
       ∙ same_rest (n % u + (p + 2)) (k * u) u rest ∙ mul-mod_left k u
 
-  pub pad_to-from-rest : (p k : ℕ) → p < u → n % u + (p + 2) ≡ k * u → (p ≡ pad_to u n) × LeastFill u n p
-  pad_to-from-rest p k h rest =
-      let fills = fills-from-rest p k rest in
-      let found = least-if-below p h fills in
-      (omega (arith, found.least (pad_to u n) pad_to-fills, (least-if-below (pad_to u n) pad_to-below pad_to-fills).least p fills), found)
+  pub pad_to_from_rest : (p k : ℕ) → p < u → n % u + (p + 2) ≡ k * u → (p ≡ pad_to u n) × LeastFill u n p
+  pad_to_from_rest p k h rest =
+      let fills = fills_from_rest p k rest in
+      let found = least_if_below p h fills in
+      (omega (arith, found.least (pad_to u n) pad_to-fills, (least_if_below (pad_to u n) pad_to-below pad_to-fills).least p fills), found)
 
 module _ (u n : ℕ) where
   pub least_pad-below : 0 < u → least_pad u n < u
   least_pad-below h = omega (arith, pad_to-below (max u 1) n (omega arith))
 
-  pub least_pad-at-most-15 : u ≤ 16 → least_pad u n ≤ 15
-  least_pad-at-most-15 h = omega (arith, pad_to-below (max u 1) n (omega arith))
+  pub least_pad_at_most_15 : u ≤ 16 → least_pad u n ≤ 15
+  least_pad_at_most_15 h = omega (arith, pad_to-below (max u 1) n (omega arith))
 
   pub padded_length-multiple : 0 < u → padded_length u n % u ≡ 0
   padded_length-multiple h = subst (λ v. padded_length u n % v ≡ 0) (omega arith) (pad_to-fills (max u 1) n (omega arith))

@@ -7,7 +7,7 @@ use Rattle.std.proofs.lemmas.List.{append_assoc, append-nil, drop_all, length-ap
 use Rattle.std.proofs.lemmas.Bool.Decides.{nat_tests}
 use Rattle.std.proofs.lemmas.Bool.{le-leb}
 use Rattle.octets.specs.Octets.{same}
-use Rattle.octets.proofs.Octets.{no_difference, same-push}
+use Rattle.octets.proofs.Octets.{no_difference, same_push}
 use Rattle.padding.specs.Padding.{data_end, pad_length, ramp, trailed, trailer, well_padded}
 
 pub length-trailer : (p : ℕ) → length (trailer p) ≡ p + 2
@@ -18,12 +18,12 @@ ramp_more i =
     sym (map-id (ramp (i + 1))) ∙ map-range_with_len_more (λ x. x) 1 i (i + 1) (omega arith) ∙ ap (λ l. l ++ ((i + 1) ∷ [])) (map-id (ramp i))
 
 -- one padding byte more
-pub ramp-step : (rest : List ℕ) (i : ℕ) → i < length rest → take i rest ≡ ramp i → take (i + 1) (set rest i (i + 1)) ≡ ramp (i + 1)
-ramp-step rest i h e = take_more_set rest i (i + 1) h ∙ ap (λ l. l ++ ((i + 1) ∷ [])) e ∙ sym (ramp_more i)
+pub ramp_step : (rest : List ℕ) (i : ℕ) → i < length rest → take i rest ≡ ramp i → take (i + 1) (set rest i (i + 1)) ≡ ramp (i + 1)
+ramp_step rest i h e = take_more_set rest i (i + 1) h ∙ ap (λ l. l ++ ((i + 1) ∷ [])) e ∙ sym (ramp_more i)
 
 -- the last two bytes, after the padding bytes
-pub trailer-made : (rest : List ℕ) (i p : ℕ) → i ≡ p → length rest ≡ p + 2 → take i rest ≡ ramp i → set (set rest p p) (p + 1) 0 ≡ trailer p
-trailer-made rest i p same h e =
+pub trailer_made : (rest : List ℕ) (i p : ℕ) → i ≡ p → length rest ≡ p + 2 → take i rest ≡ ramp i → set (set rest p p) (p + 1) 0 ≡ trailer p
+trailer_made rest i p same h e =
     sym (take_all (p + 1 + 1) (set (set rest p p) (p + 1) 0) (simp length-set (omega arith)))
     ∙ take_more_set (set rest p p) (p + 1) 0 (simp length-set (omega arith))
     ∙ ap (λ l. l ++ (0 ∷ [])) (take_more_set rest p p (omega arith) ∙ ap (λ l. l ++ (p ∷ [])) (rw same at e))
@@ -35,15 +35,15 @@ trailed-fits n p text h allowed =
     let same : length text - (n + 2) ≡ p = omega arith in
     rw (le-leb (n + 2) (length text) (omega arith), le-leb (length text) (n + 2 + 255) (omega arith), same)
 
-pub trailed-is : (n p : ℕ) (text rest : List ℕ) → length text ≡ n + p + 2 → p ≤ 255 → rest ≡ trailer p → put_mid n (length text - n) text rest ≡ trailed n text
-trailed-is n p text rest h allowed is =
+pub trailed_is : (n p : ℕ) (text rest : List ℕ) → length text ≡ n + p + 2 → p ≤ 255 → rest ≡ trailer p → put_mid n (length text - n) text rest ≡ trailed n text
+trailed_is n p text rest h allowed is =
     rw (drop_all (length text - n) (drop n text) (omega (arith, length-drop n text)), append-nil, is) (sym (trailed-fits n p text h allowed))
 
 -- one byte more of a comparison: d gathers the differences, and is 0 while there is none
 pub same_step : (xs zs : List ℕ) (i d y : ℕ) → i < length xs → length zs ≡ i → same (take i xs) zs ≡ eqb d 0 → same (take (i + 1) xs) (zs ++ (y ∷ [])) ≡ eqb (bit_or d (bit_xor (get_or xs i 0) y)) 0
 same_step xs zs i d y h k so =
     rw (take_more xs i 0 h)
-    (same-push (take i xs) zs (get_or xs i 0) y (length-take-le i xs (omega arith) ∙ sym k)
+    (same_push (take i xs) zs (get_or xs i 0) y (length-take-le i xs (omega arith) ∙ sym k)
     ∙ ap (λ t. t && eqb (get_or xs i 0) y) so ∙ sym (no_difference d (get_or xs i 0) y))
 
 pub ramp-compared : (xs : List ℕ) (i d : ℕ) → i < length xs → same (take i xs) (ramp i) ≡ eqb d 0 → same (take (i + 1) xs) (ramp (i + 1)) ≡ eqb (bit_or d (bit_xor (get_or xs i 0) (i + 1))) 0
@@ -57,8 +57,8 @@ trailer-compared xs i p d e h so =
     sym (rw (xor_zero_r, take_all (p + 1 + 1) xs (omega arith), append_assoc) at two)
 
 -- the part that is compared is what text ends with
-pub well_padded-is : (text : List ℕ) (n : ℕ) (t : Bool) → pad_length text ≤ 255 → pad_length text + 2 ≤ length text → n ≡ length text - 2 - pad_length text → t ≡ same (take (length text - n) (drop n text)) (trailer (length (take (length text - n) (drop n text)) - 2)) → t ≡ well_padded text
-well_padded-is text n t byte fits e so =
+pub well_padded_is : (text : List ℕ) (n : ℕ) (t : Bool) → pad_length text ≤ 255 → pad_length text + 2 ≤ length text → n ≡ length text - 2 - pad_length text → t ≡ same (take (length text - n) (drop n text)) (trailer (length (take (length text - n) (drop n text)) - 2)) → t ≡ well_padded text
+well_padded_is text n t byte fits e so =
     let pad : length (drop n text) - 2 ≡ pad_length text = simp length-drop (omega arith) in
     let at : n ≡ data_end text = omega arith in
     rw (le-leb (pad_length text) 255 byte, le-leb (pad_length text + 2) (length text) fits, ← at) (rw (take_rest text n, pad) at so)

@@ -80,4 +80,4 @@ pub record Lawful : Type 0 where
   -- and nothing else
   pub undoes-only-padding : (xs text : List ℕ) → unpadded text ≡ Some xs → (p : ℕ) × Padded xs p text
   -- no text is the padding of two data, or of the same data with two lengths
-  pub padded-one-way : (xs ys text : List ℕ) (p q : ℕ) → Padded xs p text → Padded ys q text → (xs ≡ ys) × (p ≡ q)
+  pub padded_one_way : (xs ys text : List ℕ) (p q : ℕ) → Padded xs p text → Padded ys q text → (xs ≡ ys) × (p ≡ q)

@@ -31,15 +31,15 @@ abbrev is : Option (List ℕ) → List ℕ → Bool
 is (Some ys) xs = same ys xs
 is None xs = false
 
-abbrev stands-with : Worked → List ℕ → Bool
-stands-with w xs =
+abbrev stands_with : Worked → List ℕ → Bool
+stands_with w xs =
     (length (padded w.pad xs) == w.whole)
     && (w.whole % w.unit == 0
     && (cond w.least (least_pad w.unit w.count == w.pad) (not (least_pad w.unit w.count == w.pad))
     && is (unpadded (padded w.pad xs)) xs))
 
 abbrev pub stands : Worked → Bool
-stands w = stands-with w (replicate w.count 170)
+stands w = stands_with w (replicate w.count 170)
 
 abbrev every : List Worked → Bool
 every [] = true

@@ -15,25 +15,25 @@ use Rattle.pairing.specs.Pairing.{pair_serves, pair_opened, opened_at, check_val
 use Rattle.pairing.specs.PairingLaws.{sides, whole-units}
 
 -- the cipher takes what fits the pair
-pub ciphers-through : (c : CipherMeaning) (i : IntegrityMeaning) (t : Triple) (z : Sizes) (g : Given)
+pub ciphers_through : (c : CipherMeaning) (i : IntegrityMeaning) (t : Triple) (z : Sizes) (g : Given)
     → pair_serves c i t ≡ Some z → Lengths t z g → (turned : List ℕ → List ℕ → List ℕ → List ℕ) (text work : List ℕ)
     → length text % z.unit ≡ 0 → 240 ≤ length work
     → ciphering turned c t.encryption g.key g.vector text work ≡ Ok (turned g.key g.vector text)
-ciphers-through c i t z g told l turned text work units room =
+ciphers_through c i t z g told l turned text work units room =
     let s = sides c i t z g told l in
     ciphering-served turned c t.encryption s.cipher g.key g.vector text work s.cipher-told s.vector
     (whole-units c i t z g s (length text) units) room
 
 -- the first bytes of a buffer over which v was written are v
-pub front-of-over : (v value zs : List ℕ) (k b : ℕ) → b ≡ k → length v ≡ k → k ≤ length zs → value ≡ over v zs → take b value ≡ v
-front-of-over v value zs k b bk vk long is =
+pub front_of_over : (v value zs : List ℕ) (k b : ℕ) → b ≡ k → length v ≡ k → k ≤ length zs → value ≡ over v zs → take b value ≡ v
+front_of_over v value zs k b bk vk long is =
     ap (λ m. take m value) bk ∙ (ap (take k) (is ∙ over-fits v zs (omega arith)) ∙ take_at v (drop (length v) zs) k vk)
 
 -- e is written over the first n bytes, and v, the first k bytes of a longer buffer, behind it
-pub sealed-in-place : (e v value zs out : List ℕ) (n k a b : ℕ) → a ≡ n → b ≡ k → length e ≡ n → length v ≡ k → n + k ≤ length out
+pub sealed_in_place : (e v value zs out : List ℕ) (n k a b : ℕ) → a ≡ n → b ≡ k → length e ≡ n → length v ≡ k → n + k ≤ length out
     → k ≤ length zs → value ≡ over v zs → placed n (take b value) (e ++ drop a out) ≡ over (e ++ v) out
-sealed-in-place e v value zs out n k a b an bk en vk room long is =
-    let w = front-of-over v value zs k b bk vk long is in
+sealed_in_place e v value zs out n k a b an bk en vk room long is =
+    let w = front_of_over v value zs k b bk vk long is in
     let d : drop a out ≡ drop n out = ap (λ m. drop m out) an in
     let fits : n + length v ≤ length (e ++ drop n out) = simp (length-append, length-drop) (omega arith) in
     ap (λ m. placed n (take b value) (e ++ m)) d
@@ -51,9 +51,9 @@ sealed-in-place e v value zs out n k a b an bk en vk room long is =
         ∙ (drop-drop (length v) n out ∙ ap (λ m. drop m out) (omega (arith, length-append e v))))
 
 -- x stands in place of e, which was written over the first n bytes
-pub opened-in-place : (x e out : List ℕ) (n a : ℕ) → a ≡ n → length x ≡ n → length e ≡ n → n ≤ length out
+pub opened_in_place : (x e out : List ℕ) (n a : ℕ) → a ≡ n → length x ≡ n → length e ≡ n → n ≤ length out
     → x ++ drop a (over e out) ≡ over x out
-opened-in-place x e out n a an xn en room =
+opened_in_place x e out n a an xn en room =
     ap (λ m. x ++ drop m (over e out)) an
     ∙ (ap (λ m. x ++ drop n m) (over-fits e out (omega arith))
     ∙ (ap (λ m. x ++ m) (drop_at e (drop (length e) out) n en ∙ ap (λ m. drop m out) (en ∙ sym xn)) ∙ sym (over-fits x out (omega arith))))
@@ -67,7 +67,7 @@ module _ (c : CipherMeaning) (i : IntegrityMeaning) (t : Triple) (z : Sizes) (g 
   compared n k b r value zs nk kz long room is test rb =
       let v = check_value c i t g (take n y) in
       let value-is : value ≡ over v zs = is ∙ ap (λ m. over (check_value c i t g (take m y)) zs) (sub-zero n) in
-      let v-is = front-of-over v value zs z.check (k - 0) (sub-zero k ∙ kz) long room value-is in
+      let v-is = front_of_over v value zs z.check (k - 0) (sub-zero k ∙ kz) long room value-is in
       let right : same (drop n y) v ≡ b =
       ap (λ w. same w v) (sym (take_rest y n)) ∙ (ap (same (take (length y - n) (drop n y))) (sym v-is) ∙ (sym test ∙ rb)) in
       ap (λ o. opened_at c i (length y - check_size o) t g y) served

@@ -68,23 +68,23 @@ module _ (c : CipherMeaning) (i : IntegrityMeaning) where
       integrity = ib.key;
       salt = omega arith;
       vector = ca.vector;
-      some-check = ib.some-check;
+      some_check = ib.some_check;
       check = ib.check;
-      some-unit = ca.some-unit;
+      some_unit = ca.some_unit;
       unit = ca.unit;
-      unit-in-clear = ca.unit-in-clear;
+      unit_in_clear = ca.unit_in_clear;
     }
 
-    pub sizes-are-bounded : SizesAreBounded (pairing c i)
-    sizes-are-bounded t z e =
+    pub sizes_are_bounded : SizesAreBounded (pairing c i)
+    sizes_are_bounded t z e =
         let p = parts (c.serves t.encryption t.key) (i.serves t.integrity) z e in
         subst (Bounded t) p.together
         (bounded t p.cipher p.integrity
         (cipher-bounds t.encryption t.key p.cipher p.cipher-told)
         (integrity-bounds t.integrity p.integrity p.integrity-told))
 
-  pub sealing-adds-the-check-value : KeepsLength c c.enciphered → CheckValueHasItsSize i → SealingAddsTheCheckValue (pairing c i)
-  sealing-adds-the-check-value keeps size t z g x told fit text =
+  pub sealing_adds_the_check_value : KeepsLength c c.enciphered → CheckValueHasItsSize i → SealingAddsTheCheckValue (pairing c i)
+  sealing_adds_the_check_value keeps size t z g x told fit text =
       let s = sides t z g told (lengths t z g fit) in
       let e = c.enciphered g.key g.vector x in
       let long : length e ≡ length x =
@@ -99,7 +99,7 @@ module _ (c : CipherMeaning) (i : IntegrityMeaning) where
     fitting : FittingCipher c t.encryption side.cipher g.key g.vector
     fitting = record {
       told = side.cipher-told;
-      length-of-vector = side.vector;
+      length_of_vector = side.vector;
       key-bytes = s.fitting.key;
       vector-bytes = s.fitting.vector;
     }
@@ -119,12 +119,12 @@ module _ (c : CipherMeaning) (i : IntegrityMeaning) where
         (enciphering-gives t.encryption side.cipher g.key g.vector x (fitting) (whole x text.bytes text.fits))
         (check-size t.integrity side.integrity g.integrity _ side.integrity-told).0
 
-    opened-at : (n : ℕ) (y : List ℕ) → length y - check_size (pair_serves c i t) ≡ n → pair_opened c i t g y ≡ opened_at c i n t g y
-    opened-at n y e = ap (λ m. opened_at c i m t g y) e
+    pair_opened-opened_at : (n : ℕ) (y : List ℕ) → length y - check_size (pair_serves c i t) ≡ n → pair_opened c i t g y ≡ opened_at c i n t g y
+    pair_opened-opened_at n y e = ap (λ m. opened_at c i m t g y) e
 
     opening-undoes : DecipheringUndoesEnciphering c → CheckValueHasItsSize i → (x : List ℕ) → Text s.sizes x
         → pair_opened c i t g (pair_sealed c i t g x) ≡ Some x
-    opening-undoes deciphering-undoes check-size x text =
+    opening-undoes deciphering_undoes check-size x text =
         let whole-x = whole x text.bytes text.fits in
         let e = c.enciphered g.key g.vector x in
         let v = check_value c i t g e in
@@ -132,38 +132,38 @@ module _ (c : CipherMeaning) (i : IntegrityMeaning) where
         omega (arith, length-append e v, check-length check-size t s.sizes g side e, check-told) in
         let right : same (drop (length e) (e ++ v)) (check_value c i t g (take (length e) (e ++ v))) ≡ true =
         rw (drop_at e v (length e) refl, take_at e v (length e) refl) (same_refl v) in
-        opened-at (length e) (e ++ v) n
+        pair_opened-opened_at (length e) (e ++ v) n
         ∙ (ap (λ b. cond b (Some (c.deciphered g.key g.vector (take (length e) (e ++ v)))) None) right
         ∙ (ap (λ w. Some (c.deciphered g.key g.vector w)) (take_at e v (length e) refl)
-        ∙ ap Some (deciphering-undoes t.encryption side.cipher g.key g.vector x (fitting) whole-x)))
+        ∙ ap Some (deciphering_undoes t.encryption side.cipher g.key g.vector x (fitting) whole-x)))
 
     -- the enciphered part is what the text enciphers to, and the check value is over it
-    taken-apart : EncipheringUndoesDeciphering c → (n : ℕ) (x y : List ℕ) (b : Bool)
+    taken_apart : EncipheringUndoesDeciphering c → (n : ℕ) (x y : List ℕ) (b : Bool)
         → Whole side.cipher (take n y) → same (drop n y) (check_value c i t g (take n y)) ≡ b
         → cond b (Some (c.deciphered g.key g.vector (take n y))) None ≡ Some x
         → (c.deciphered g.key g.vector (take n y) ≡ x) × (pair_sealed c i t g x ≡ y)
-    taken-apart enciphering-undoes n x y false h e o = let z : ◌≡◌ {A = ℕ} 0 1 = cc in absurd (omega arith)
-    taken-apart enciphering-undoes n x y true h e o =
+    taken_apart enciphering_undoes n x y false h e o = let z : ◌≡◌ {A = ℕ} 0 1 = cc in absurd (omega arith)
+    taken_apart enciphering_undoes n x y true h e o =
         let is : c.deciphered g.key g.vector (take n y) ≡ x = cc in
         let back : c.enciphered g.key g.vector x ≡ take n y =
         ap (c.enciphered g.key g.vector) (sym is)
-        ∙ enciphering-undoes t.encryption side.cipher g.key g.vector (take n y) (fitting) h in
+        ∙ enciphering_undoes t.encryption side.cipher g.key g.vector (take n y) (fitting) h in
         let value = same_true (drop n y) (check_value c i t g (take n y)) e in (
           is,
           ap (λ w. w ++ check_value c i t g w) back
               ∙ (ap (λ w. take n y ++ w) (sym value) ∙ take-append-drop n y),
         )
 
-    what-opens : KeepsLength c c.deciphered → GivesBytes c c.deciphered → EncipheringUndoesDeciphering c
+    what_opens : KeepsLength c c.deciphered → GivesBytes c c.deciphered → EncipheringUndoesDeciphering c
         → (x y : List ℕ) → Sealed s.sizes y → pair_opened c i t g y ≡ Some x
         → Text s.sizes x × (pair_sealed c i t g x ≡ y)
-    what-opens deciphering-keeps deciphering-gives enciphering-undoes x y h o =
+    what_opens deciphering-keeps deciphering-gives enciphering_undoes x y h o =
         let n = length y - s.sizes.check in
         let n-is : length y - check_size (pair_serves c i t) ≡ n = ap (λ k. length y - k) check-told in
         let long : length (take n y) ≡ n = length-take-le n y (omega arith) in
         let bytes = All-take (λ k. k < 256) n y h.bytes in
         let whole-e = whole (take n y) bytes (ap (text_fits s.sizes) long ∙ h.fits) in
-        let apart = taken-apart enciphering-undoes n x y (same (drop n y) (check_value c i t g (take n y))) whole-e refl (sym (opened-at n y n-is) ∙ o) in
+        let apart = taken_apart enciphering_undoes n x y (same (drop n y) (check_value c i t g (take n y))) whole-e refl (sym (pair_opened-opened_at n y n-is) ∙ o) in
         let kept : length (c.deciphered g.key g.vector (take n y)) ≡ length (take n y) =
         deciphering-keeps t.encryption side.cipher g.key g.vector (take n y) side.cipher-told side.vector whole-e.units in
         let as_long : length x ≡ n = ap length (sym apart.0) ∙ (kept ∙ long) in (
@@ -180,5 +180,5 @@ module _ (c : CipherMeaning) (i : IntegrityMeaning) where
   pub opening-undoes-sealing : DecipheringUndoesEnciphering c → CheckValueHasItsSize i → OpeningUndoesSealing (pairing c i)
   opening-undoes-sealing undoes size t g s = opening-undoes t g s undoes size
 
-  pub what-opens-was-sealed : KeepsLength c c.deciphered → GivesBytes c c.deciphered → EncipheringUndoesDeciphering c → WhatOpensWasSealed (pairing c i)
-  what-opens-was-sealed keeps gives undoes t g s = what-opens t g s keeps gives undoes
+  pub what_opens_was_sealed : KeepsLength c c.deciphered → GivesBytes c c.deciphered → EncipheringUndoesDeciphering c → WhatOpensWasSealed (pairing c i)
+  what_opens_was_sealed keeps gives undoes t g s = what_opens t g s keeps gives undoes

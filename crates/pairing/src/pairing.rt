@@ -4,7 +4,7 @@ ghost use Rattle.std.specs.Option.{ok_or};
 ghost use Rattle.octets.specs.Octets.{over};
 ghost use Rattle.suite.specs.Fits.{Sealable, Openable};
 ghost use Rattle.suite.specs.Meaning.{given, counted, output_after};
-ghost use Rattle.suite.proofs.Mismatch.{mismatch-when-no-text-seals};
+ghost use Rattle.suite.proofs.Mismatch as mismatch;
 ghost use Rattle.suite.specs.declared.fault.Fault.TheVariants.{Mismatch};
 ghost use Rattle.pairing.specs.Pairing.{pairing, pair_serves, pair_sealed, pair_opened, check_value};
 ghost use Rattle.pairing.specs.PairingLaws as pair;
@@ -26,12 +26,12 @@ impl<C: Cipher, I: Integrity> Suite for Pairing<C, I> {
     ghost meaning = { λ s. pairing (C.Cipher.ciphers s.cipher) (I.Integrity.checks s.integrity) };
 
     ghost sizes_are_bounded = { λ s.
-        pair.sizes-are-bounded (C.Cipher.ciphers s.cipher) (I.Integrity.checks s.integrity)
+        pair.sizes_are_bounded (C.Cipher.ciphers s.cipher) (I.Integrity.checks s.integrity)
         (C.Cipher.cipher_sizes_are_bounded s.cipher)
         (I.Integrity.integrity_sizes_are_bounded s.integrity) };
 
     ghost sealing_adds_the_check_value = { λ s.
-        pair.sealing-adds-the-check-value (C.Cipher.ciphers s.cipher) (I.Integrity.checks s.integrity)
+        pair.sealing_adds_the_check_value (C.Cipher.ciphers s.cipher) (I.Integrity.checks s.integrity)
         (C.Cipher.enciphering_keeps_length s.cipher)
         (I.Integrity.check_value_has_its_size s.integrity) };
 
@@ -46,17 +46,17 @@ impl<C: Cipher, I: Integrity> Suite for Pairing<C, I> {
         (I.Integrity.check_value_has_its_size s.integrity) };
 
     ghost what_opens_was_sealed = { λ s.
-        pair.what-opens-was-sealed (C.Cipher.ciphers s.cipher) (I.Integrity.checks s.integrity)
+        pair.what_opens_was_sealed (C.Cipher.ciphers s.cipher) (I.Integrity.checks s.integrity)
         (C.Cipher.deciphering_keeps_length s.cipher)
         (C.Cipher.deciphering_gives_bytes s.cipher)
         (C.Cipher.enciphering_undoes_deciphering s.cipher) };
 
     ghost mismatch_when_no_text_seals = { λ s.
-        mismatch-when-no-text-seals (pairing (C.Cipher.ciphers s.cipher) (I.Integrity.checks s.integrity))
+        mismatch.mismatch_when_no_text_seals (pairing (C.Cipher.ciphers s.cipher) (I.Integrity.checks s.integrity))
         (pair.opening-undoes-sealing (C.Cipher.ciphers s.cipher) (I.Integrity.checks s.integrity)
         (C.Cipher.deciphering_undoes_enciphering s.cipher)
         (I.Integrity.check_value_has_its_size s.integrity))
-        (pair.what-opens-was-sealed (C.Cipher.ciphers s.cipher) (I.Integrity.checks s.integrity)
+        (pair.what_opens_was_sealed (C.Cipher.ciphers s.cipher) (I.Integrity.checks s.integrity)
         (C.Cipher.deciphering_keeps_length s.cipher)
         (C.Cipher.deciphering_gives_bytes s.cipher)
         (C.Cipher.enciphering_undoes_deciphering s.cipher)) };

@@ -3,9 +3,9 @@ use Rattle.std.proofs.Common.{◌≡◌, ℕ, ◌+◌, List, sym, refl, ap, ◌�
 use Rattle.chaining.specs.Turns.{turns}
 use Rattle.chaining.proofs.Turns.{turns_more}
 
-pub eight-turns : (step : ℕ → List ℕ → List ℕ) (m : ℕ) (s : List ℕ) {a b c d e f g h : List ℕ} → a ≡ step m s → b ≡ step (m + 1) a → c ≡ step (m + 2) b → d ≡ step (m + 3) c → e ≡ step (m + 4) d → f ≡ step (m + 5) e → g ≡ step (m + 6) f → h ≡ step (m + 7) g → h ≡ turns (λ t. step (m + t)) 8 s
+pub eight_turns : (step : ℕ → List ℕ → List ℕ) (m : ℕ) (s : List ℕ) {a b c d e f g h : List ℕ} → a ≡ step m s → b ≡ step (m + 1) a → c ≡ step (m + 2) b → d ≡ step (m + 3) c → e ≡ step (m + 4) d → f ≡ step (m + 5) e → g ≡ step (m + 6) f → h ≡ step (m + 7) g → h ≡ turns (λ t. step (m + t)) 8 s
 unfolding turns
-eight-turns step m s one two three four five six seven eight =
+eight_turns step m s one two three four five six seven eight =
     let from-m = λ (t : ℕ). step (m + t) in
     let after_one = turns_more from-m 0 s refl (one ∙ ap (λ (t : ℕ). step t s) (sym (add-zero m))) in
     let after_two = turns_more from-m 1 s after_one two in

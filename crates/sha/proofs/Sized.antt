@@ -13,16 +13,16 @@ length-digest : (f : Compression) (v : List ℕ) (count : ℕ) → ((u block : L
 length-digest f v count turned start message =
     length-word_bytes (hashed f v message) ∙ ap (λ k. 4 * k) (length-concluded f count 0 v message turned start)
 
-five-words : (v block : List ℕ) → length (one.compressed v block) ≡ 5
+five_words : (v block : List ℕ) → length (one.compressed v block) ≡ 5
 unfolding one.compressed
-five-words v block = refl
+five_words v block = refl
 
-eight-words : (v block : List ℕ) → length (two.compressed v block) ≡ 8
+eight_words : (v block : List ℕ) → length (two.compressed v block) ≡ 8
 unfolding two.compressed
-eight-words v block = refl
+eight_words v block = refl
 
 pub length-sha256 : (message : List ℕ) → length (sha256 message) ≡ 32
-length-sha256 = length-digest two.compressed two.initial 8 eight-words refl
+length-sha256 = length-digest two.compressed two.initial 8 eight_words refl
 
 pub length-sha1 : (message : List ℕ) → length (sha1 message) ≡ 20
-length-sha1 = length-digest one.compressed one.initial 5 five-words refl
+length-sha1 = length-digest one.compressed one.initial 5 five_words refl

@@ -53,14 +53,14 @@ module _ (t : Triple) (z : Sizes) (g : Given) where
           units = units z n b.0;
           short = short z n b.0;
           room = leb-true _ _ c.0;
-          work-bytes = leb-true _ _ c.1;
+          work_bytes = leb-true _ _ c.1;
         }
 
     pub sealing-fits : Sealable t z g n out work → sealing_fits t z g n out work ≡ true
     sealing-fits s =
         and_from _ _ (lengths-fit s.lengths)
         (and_from _ _ (text-fits z n s.units s.short)
-        (and_from _ _ (le-leb _ _ s.room) (le-leb _ _ s.work-bytes)))
+        (and_from _ _ (le-leb _ _ s.room) (le-leb _ _ s.work_bytes)))
 
     pub openable : opening_fits t z g n out work ≡ true → Openable t z g n out work
     openable e =
@@ -77,7 +77,7 @@ module _ (t : Triple) (z : Sizes) (g : Given) where
           units = units z (n - z.check) c.0;
           short = short z (n - z.check) c.0;
           room = leb-true _ _ d.0;
-          work-bytes = leb-true _ _ d.1;
+          work_bytes = leb-true _ _ d.1;
         }
 
     pub opening-fits : Openable t z g n out work → opening_fits t z g n out work ≡ true
@@ -85,4 +85,4 @@ module _ (t : Triple) (z : Sizes) (g : Given) where
         and_from _ _ (lengths-fit o.lengths)
         (and_from _ _ (le-leb _ _ o.check)
         (and_from _ _ (text-fits z (n - z.check) o.units o.short)
-        (and_from _ _ (le-leb _ _ o.room) (le-leb _ _ o.work-bytes))))
+        (and_from _ _ (le-leb _ _ o.room) (le-leb _ _ o.work_bytes))))

@@ -4,8 +4,8 @@ use Rattle.suite.specs.Meaning.{Given, Meaning}
 use Rattle.suite.specs.Laws.{Served, Sealed, Text, NoTextSealsTo, OpeningUndoesSealing, WhatOpensWasSealed, MismatchWhenNoTextSeals}
 use Rattle.suite.specs.declared.triple.Triple.{Triple}
 
-none-is-not-some : {X : Type 0} (x : X) → None ≡ Some x → ⊥
-none-is-not-some x e = let z : ◌≡◌ {A = ℕ} 0 1 = cc in omega arith
+none_is_not_some : {X : Type 0} (x : X) → None ≡ Some x → ⊥
+none_is_not_some x e = let z : ◌≡◌ {A = ℕ} 0 1 = cc in omega arith
 
 module _ (m : Meaning) where
   unopened : (t : Triple) (g : Given) (s : Served m t g) (y : List ℕ) (o : Option (List ℕ))
@@ -13,8 +13,8 @@ module _ (m : Meaning) where
   unopened t g s y None e l h no' = refl
   unopened t g s y (Some x) e l h no' = let found = l t g s x y h e in absurd (no' x found.0 found.1)
 
-  pub mismatch-when-no-text-seals : OpeningUndoesSealing m → WhatOpensWasSealed m → MismatchWhenNoTextSeals m
-  mismatch-when-no-text-seals undoes sealed t g s y h = (
-    (λ none x text e. none-is-not-some x (sym none ∙ (ap (m.opened t g) (sym e) ∙ undoes t g s x text))),
+  pub mismatch_when_no_text_seals : OpeningUndoesSealing m → WhatOpensWasSealed m → MismatchWhenNoTextSeals m
+  mismatch_when_no_text_seals undoes sealed t g s y h = (
+    (λ none x text e. none_is_not_some x (sym none ∙ (ap (m.opened t g) (sym e) ∙ undoes t g s x text))),
     λ no'. unopened t g s y (m.opened t g y) refl sealed h no',
   )

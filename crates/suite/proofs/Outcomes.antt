@@ -22,9 +22,9 @@ module _ (m : Meaning) (t : Triple) (z : Sizes) (g : Given) (served : m.serves t
       ap (λ o. opening_by o m t g y out work) served ∙ ap (λ b. cond b (ok_or (m.opened t g y) Mismatch) (Err Size)) fits
 
 -- whether it opened or mismatched, the work bytes are zero
-pub opening-work : (o : Option (List ℕ)) (work : List ℕ) → work_after (ok_or o Mismatch) work ≡ wiped 240 work
-opening-work None work = refl
-opening-work (Some x) work = refl
+pub opening_work : (o : Option (List ℕ)) (work : List ℕ) → work_after (ok_or o Mismatch) work ≡ wiped 240 work
+opening_work None work = refl
+opening_work (Some x) work = refl
 
 pub ciphering-served : (turned : List ℕ → List ℕ → List ℕ → List ℕ) (m : CipherMeaning) (code : ℕ) (z : CipherSizes)
     (key vector text work : List ℕ) → m.serves code (length key) ≡ Some z → length vector ≡ z.vector

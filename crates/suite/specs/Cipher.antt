@@ -36,7 +36,7 @@ text_after (Err f) text = text
 
 pub record FittingCipher (m : CipherMeaning) (code : ℕ) (z : CipherSizes) (key vector : List ℕ) : Type 0 where
   pub told : m.serves code (length key) ≡ Some z
-  pub length-of-vector : length vector ≡ z.vector
+  pub length_of_vector : length vector ≡ z.vector
   pub key-bytes : Octets key
   pub vector-bytes : Octets vector
 
@@ -48,9 +48,9 @@ pub record Whole (z : CipherSizes) (x : List ℕ) : Type 0 where
 pub record BoundedCipher (n : ℕ) (z : CipherSizes) : Type 0 where
   pub key : n ≤ 32
   pub vector : z.vector ≤ 16
-  pub some-unit : 1 ≤ z.unit
+  pub some_unit : 1 ≤ z.unit
   pub unit : z.unit ≤ 16
-  pub unit-in-clear : z.encrypts ≡ false → z.unit ≡ 1
+  pub unit_in_clear : z.encrypts ≡ false → z.unit ≡ 1
 
 module _ (m : CipherMeaning) where
   abbrev pub CipherSizesAreBounded : Type 0

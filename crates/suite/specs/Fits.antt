@@ -19,7 +19,7 @@ pub record Sealable (t : Triple) (z : Sizes) (g : Given) (n out work : ℕ) : Ty
   pub units : n % z.unit ≡ 0
   pub short : n < 2 ^ 32
   pub room : n + z.check ≤ out
-  pub work-bytes : 240 ≤ work
+  pub work_bytes : 240 ≤ work
 
 pub record Openable (t : Triple) (z : Sizes) (g : Given) (n out work : ℕ) : Type 0 where
   pub lengths : Lengths t z g
@@ -27,4 +27,4 @@ pub record Openable (t : Triple) (z : Sizes) (g : Given) (n out work : ℕ) : Ty
   pub units : (n - z.check) % z.unit ≡ 0
   pub short : n - z.check < 2 ^ 32
   pub room : n - z.check ≤ out
-  pub work-bytes : 240 ≤ work
+  pub work_bytes : 240 ≤ work

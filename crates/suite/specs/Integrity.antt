@@ -15,7 +15,7 @@ checked head vector enciphered = head ++ (vector ++ enciphered)
 
 pub record BoundedIntegrity (z : IntegritySizes) : Type 0 where
   pub key : z.key ≤ 32
-  pub some-check : 1 ≤ z.check
+  pub some_check : 1 ≤ z.check
   pub check : z.check ≤ 32
 
 module _ (m : IntegrityMeaning) where

@@ -17,11 +17,11 @@ pub record Bounded (t : Triple) (z : Sizes) : Type 0 where
   pub integrity : z.integrity ≤ 32
   pub salt : z.salt ≤ 4
   pub vector : z.vector ≤ 16
-  pub some-check : 1 ≤ z.check
+  pub some_check : 1 ≤ z.check
   pub check : z.check ≤ 32
-  pub some-unit : 1 ≤ z.unit
+  pub some_unit : 1 ≤ z.unit
   pub unit : z.unit ≤ 16
-  pub unit-in-clear : z.encrypts ≡ false → z.unit ≡ 1
+  pub unit_in_clear : z.encrypts ≡ false → z.unit ≡ 1
 
 pub record Fitting (t : Triple) (z : Sizes) (g : Given) : Type 0 where
   pub lengths : lengths_fit t z g ≡ true

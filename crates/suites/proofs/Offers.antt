@@ -22,28 +22,28 @@ null_sizes = record { vector = 0; unit = 1; encrypts = false }
 abbrev one : {X : Type 0} → Bool → X → Option X → Option X
 one p x o = cond p (Some x) o
 
-one-row : (p q r : Bool) (c : CipherSizes) (i : IntegritySizes)
+one_row : (p q r : Bool) (c : CipherSizes) (i : IntegritySizes)
     → paired (cond (p && q) (Some c) None) (cond (r && true) (Some i) None) ≡ one (p && (q && r)) (both c i) None
-one-row true true true c i = refl
-one-row true true false c i = refl
-one-row true false true c i = refl
-one-row true false false c i = refl
-one-row false q true c i = refl
-one-row false q false c i = refl
+one_row true true true c i = refl
+one_row true true false c i = refl
+one_row true false true c i = refl
+one_row true false false c i = refl
+one_row false q true c i = refl
+one_row false q false c i = refl
 
-two-rows : (p q q' r : Bool) (n n' : ℕ) (i : IntegritySizes)
+two_rows : (p q q' r : Bool) (n n' : ℕ) (i : IntegritySizes)
     → paired (sizes_where (cond p (cond q (Some n) (cond q' (Some n') None)) None)) (cond (r && true) (Some i) None)
     ≡ one (p && (q && r)) (both cbc_sizes i) (one (p && (q' && r)) (both cbc_sizes i) None)
-two-rows true true true true n n' i = refl
-two-rows true true true false n n' i = refl
-two-rows true true false true n n' i = refl
-two-rows true true false false n n' i = refl
-two-rows true false true true n n' i = refl
-two-rows true false true false n n' i = refl
-two-rows true false false true n n' i = refl
-two-rows true false false false n n' i = refl
-two-rows false q q' true n n' i = refl
-two-rows false q q' false n n' i = refl
+two_rows true true true true n n' i = refl
+two_rows true true true false n n' i = refl
+two_rows true true false true n n' i = refl
+two_rows true true false false n n' i = refl
+two_rows true false true true n n' i = refl
+two_rows true false true false n n' i = refl
+two_rows true false false true n n' i = refl
+two_rows true false false false n n' i = refl
+two_rows false q q' true n n' i = refl
+two_rows false q q' false n n' i = refl
 
 combined-rows : (p r q q' : Bool) (n n' : ℕ)
     → cond (p && r) (sizes_of (cond q (Some n) (cond q' (Some n') None))) None
@@ -58,14 +58,14 @@ combined-rows true false false false n n' = refl
 combined-rows false r q q' n n' = refl
 
 -- rows, or others behind them
-one-before : {X : Type 0} (p : Bool) (x : X) (o : Option X) → option_or (one p x None) o ≡ one p x o
-one-before true x o = refl
-one-before false x None = refl
-one-before false x (Some y) = refl
+one_before : {X : Type 0} (p : Bool) (x : X) (o : Option X) → option_or (one p x None) o ≡ one p x o
+one_before true x o = refl
+one_before false x None = refl
+one_before false x (Some y) = refl
 
-two-before : {X : Type 0} (p q : Bool) (x : X) (o : Option X) → option_or (one p x (one q x None)) o ≡ one p x (one q x o)
-two-before true q x o = refl
-two-before false q x o = one-before q x o
+two_before : {X : Type 0} (p q : Bool) (x : X) (o : Option X) → option_or (one p x (one q x None)) o ≡ one p x (one q x o)
+two_before true q x o = refl
+two_before false q x o = one_before q x o
 
 -- the bank's nesting makes no difference to the order
 in_order : {X : Type 0} (a b c d e : Option X)
@@ -80,10 +80,10 @@ module _ {X : Type 0} (p q r r' s s' u u' : Bool) (a b c d e : X) where
       ≡ one p a (one q b (one r c (one r' c (one s d (one s' d (one u e (one u' e None)))))))
   rows =
       let last : Option X = one u e (one u' e None) in
-      one-before p a _
-      ∙ (ap (one p a) (one-before q b _)
-      ∙ (ap (λ o. one p a (one q b o)) (two-before r r' c _)
-      ∙ ap (λ o. one p a (one q b (one r c (one r' c o)))) (two-before s s' d last)))
+      one_before p a _
+      ∙ (ap (one p a) (one_before q b _)
+      ∙ (ap (λ o. one p a (one q b o)) (two_before r r' c _)
+      ∙ ap (λ o. one p a (one q b (one r c (one r' c o)))) (two_before s s' d last)))
 
   joined : (k l m n o : Option X)
       → k ≡ one p a None → l ≡ one q b None → m ≡ one r c (one r' c None) → n ≡ one s d (one s' d None) → o ≡ one u e (one u' e None)
@@ -103,44 +103,44 @@ module _ (t : Triple) where
   abbrev is : ℕ → ℕ → ℕ → Bool
   is encryption key integrity = eqb t.encryption encryption && (eqb t.key key && eqb t.integrity integrity)
 
-  abbrev null-hmac : ℕ → ℕ → IntegritySizes → Option Sizes
-  null-hmac size own z =
+  abbrev null_hmac : ℕ → ℕ → IntegritySizes → Option Sizes
+  null_hmac size own z =
       paired (null_serves t.encryption t.key) (cond (eqb t.integrity own && possible size z) (Some z) None)
 
-  abbrev cbc-hmac : ℕ → ℕ → ℕ → IntegritySizes → Option Sizes
-  cbc-hmac size code own z =
+  abbrev cbc_hmac : ℕ → ℕ → ℕ → IntegritySizes → Option Sizes
+  cbc_hmac size code own z =
       paired (sizes_where (schedule_served scheduled code t.encryption t.key))
       (cond (eqb t.integrity own && possible size z) (Some z) None)
 
-  abbrev ccm-alone : ℕ → ℕ → Option Sizes
-  ccm-alone code own = cond (eqb t.encryption code && eqb t.integrity own) (sizes_of (scheduled t.key)) None
+  abbrev ccm_alone : ℕ → ℕ → Option Sizes
+  ccm_alone code own = cond (eqb t.encryption code && eqb t.integrity own) (sizes_of (scheduled t.key)) None
 
-  null-row : (size h own : ℕ) (y z : IntegritySizes) → h ≡ own → y ≡ z → possible size z ≡ true
-      → null-hmac size h y ≡ one (is encr_null 0 own) (both null_sizes z) None
-  null-row size h own y z code sizes can =
-      ap (λ n. null-hmac size n y) code
-      ∙ (ap (null-hmac size own) sizes
+  null_row : (size h own : ℕ) (y z : IntegritySizes) → h ≡ own → y ≡ z → possible size z ≡ true
+      → null_hmac size h y ≡ one (is encr_null 0 own) (both null_sizes z) None
+  null_row size h own y z code sizes can =
+      ap (λ n. null_hmac size n y) code
+      ∙ (ap (null_hmac size own) sizes
       ∙ (ap (λ b. paired (null_serves t.encryption t.key) (cond (eqb t.integrity own && b) (Some z) None)) can
-      ∙ one-row (eqb t.encryption encr_null) (eqb t.key 0) (eqb t.integrity own) null_sizes z))
+      ∙ one_row (eqb t.encryption encr_null) (eqb t.key 0) (eqb t.integrity own) null_sizes z))
 
-  cbc-rows : (size c code h own : ℕ) (y z : IntegritySizes) → c ≡ code → h ≡ own → y ≡ z → possible size z ≡ true
-      → cbc-hmac size c h y
+  cbc_rows : (size c code h own : ℕ) (y z : IntegritySizes) → c ≡ code → h ≡ own → y ≡ z → possible size z ≡ true
+      → cbc_hmac size c h y
       ≡ one (is code 16 own) (both cbc_sizes z)
       (one (is code 32 own) (both cbc_sizes z) None)
-  cbc-rows size c code h own y z encryption integrity sizes can =
-      ap (λ n. cbc-hmac size n h y) encryption
-      ∙ (ap (λ n. cbc-hmac size code n y) integrity
-      ∙ (ap (cbc-hmac size code own) sizes
+  cbc_rows size c code h own y z encryption integrity sizes can =
+      ap (λ n. cbc_hmac size n h y) encryption
+      ∙ (ap (λ n. cbc_hmac size code n y) integrity
+      ∙ (ap (cbc_hmac size code own) sizes
       ∙ (ap (λ b. paired (sizes_where (schedule_served scheduled code t.encryption t.key)) (cond (eqb t.integrity own && b) (Some z) None)) can
-      ∙ two-rows (eqb t.encryption code) (eqb t.key 16) (eqb t.key 32) (eqb t.integrity own) 176 240 z)))
+      ∙ two_rows (eqb t.encryption code) (eqb t.key 16) (eqb t.key 32) (eqb t.integrity own) 176 240 z)))
 
-  ccm-rows : (m code h own : ℕ) → m ≡ code → h ≡ own
-      → ccm-alone m h
+  ccm_rows : (m code h own : ℕ) → m ≡ code → h ≡ own
+      → ccm_alone m h
       ≡ one (is code 16 own) ccm_sizes
       (one (is code 32 own) ccm_sizes None)
-  ccm-rows m code h own encryption integrity =
-      ap (λ n. ccm-alone n h) encryption
-      ∙ (ap (ccm-alone code) integrity
+  ccm_rows m code h own encryption integrity =
+      ap (λ n. ccm_alone n h) encryption
+      ∙ (ap (ccm_alone code) integrity
       ∙ combined-rows (eqb t.encryption code) (eqb t.integrity own) (eqb t.key 16) (eqb t.key 32) 176 240)
 
   pub served : (h₁ h₂ c₁ h₃ c₂ h₄ m h₅ : ℕ) (z₁ z₂ z₃ z₄ : IntegritySizes)
@@ -149,17 +149,17 @@ module _ (t : Triple) where
       → c₂ ≡ aes_cbc → h₄ ≡ auth_hmac_sha2_256_128 → z₄ ≡ hmac_sizes 32 16
       → m ≡ aes_ccm → h₅ ≡ auth_combined
       → option_or
-      (option_or (option_or (null-hmac 20 h₁ z₁) (null-hmac 32 h₂ z₂)) (option_or (cbc-hmac 20 c₁ h₃ z₃) (cbc-hmac 32 c₂ h₄ z₄)))
-      (ccm-alone m h₅)
+      (option_or (option_or (null_hmac 20 h₁ z₁) (null_hmac 32 h₂ z₂)) (option_or (cbc_hmac 20 c₁ h₃ z₃) (cbc_hmac 32 c₂ h₄ z₄)))
+      (ccm_alone m h₅)
       ≡ standard_serves t
   served h₁ h₂ c₁ h₃ c₂ h₄ m h₅ z₁ z₂ z₃ z₄ e₁ f₁ e₂ f₂ d₁ e₃ f₃ d₂ e₄ f₄ d₃ e₅ =
       joined (is encr_null 0 auth_hmac_sha1_96) (is encr_null 0 auth_hmac_sha2_256_128)
       (is aes_cbc 16 auth_hmac_sha1_96) (is aes_cbc 32 auth_hmac_sha1_96) (is aes_cbc 16 auth_hmac_sha2_256_128) (is aes_cbc 32 auth_hmac_sha2_256_128)
       (is aes_ccm 16 auth_combined) (is aes_ccm 32 auth_combined)
       (both null_sizes (hmac_sizes 20 12)) (both null_sizes (hmac_sizes 32 16)) (both cbc_sizes (hmac_sizes 20 12)) (both cbc_sizes (hmac_sizes 32 16)) ccm_sizes
-      (null-hmac 20 h₁ z₁) (null-hmac 32 h₂ z₂) (cbc-hmac 20 c₁ h₃ z₃) (cbc-hmac 32 c₂ h₄ z₄) (ccm-alone m h₅)
-      (null-row 20 h₁ auth_hmac_sha1_96 z₁ (hmac_sizes 20 12) e₁ f₁ refl)
-      (null-row 32 h₂ auth_hmac_sha2_256_128 z₂ (hmac_sizes 32 16) e₂ f₂ refl)
-      (cbc-rows 20 c₁ aes_cbc h₃ auth_hmac_sha1_96 z₃ (hmac_sizes 20 12) d₁ e₃ f₃ refl)
-      (cbc-rows 32 c₂ aes_cbc h₄ auth_hmac_sha2_256_128 z₄ (hmac_sizes 32 16) d₂ e₄ f₄ refl)
-      (ccm-rows m aes_ccm h₅ auth_combined d₃ e₅)
+      (null_hmac 20 h₁ z₁) (null_hmac 32 h₂ z₂) (cbc_hmac 20 c₁ h₃ z₃) (cbc_hmac 32 c₂ h₄ z₄) (ccm_alone m h₅)
+      (null_row 20 h₁ auth_hmac_sha1_96 z₁ (hmac_sizes 20 12) e₁ f₁ refl)
+      (null_row 32 h₂ auth_hmac_sha2_256_128 z₂ (hmac_sizes 32 16) e₂ f₂ refl)
+      (cbc_rows 20 c₁ aes_cbc h₃ auth_hmac_sha1_96 z₃ (hmac_sizes 20 12) d₁ e₃ f₃ refl)
+      (cbc_rows 32 c₂ aes_cbc h₄ auth_hmac_sha2_256_128 z₄ (hmac_sizes 32 16) d₂ e₄ f₄ refl)
+      (ccm_rows m aes_ccm h₅ auth_combined d₃ e₅)

@@ -1,5 +1,5 @@
 use Rattle.std.proofs.Common.{length, take, ap, ◌∙◌, arith, rules}
-use Rattle.algorithms.specs.CbcTerms.{schedule-first}
+use Rattle.algorithms.specs.CbcTerms.{schedule_first}
 use Rattle.algorithms.proofs.cbc_cipher.expand.Goals as goal
 
 pub returns : goal.returns
@@ -13,5 +13,5 @@ returns g c =
       room = omega (arith, short, c.requires.work_bytes, c.expand_key.auto.work);
       schedule_first =
           ap (take n) c.expand_key.ensures.schedule_then_old
-          ∙ schedule-first (g.B.BlockCipher.scheduled (length key)) n (g.B.BlockCipher.expanded key) work c.requires.served short long c.requires.work_bytes;
+          ∙ schedule_first (g.B.BlockCipher.scheduled (length key)) n (g.B.BlockCipher.expanded key) work c.requires.served short long c.requires.work_bytes;
     }

@@ -1,12 +1,12 @@
 use Rattle.std.proofs.Common.{rules}
-use Rattle.block.proofs.Sums.{length-xored, xored-nil, xored-more, xored-all}
+use Rattle.block.proofs.Sums.{length-xored, xored-nil, xored_more, xored_all}
 use Rattle.block.proofs.xor.xor_front.Goals as goal
 
 pub loop-i-init : goal.loop-i-init
 loop-i-init c = search (rules, xored-nil)
 
 pub loop-i-preserved : goal.loop-i-preserved
-loop-i-preserved c = search (rules, xored-more)
+loop-i-preserved c = search (rules, xored_more)
 
 pub returns : goal.returns
-returns c = search (rules, xored-all)
+returns c = search (rules, xored_all)

@@ -1,5 +1,5 @@
 use Rattle.std.proofs.Common.{rules}
-use Rattle.ccm.proofs.Chains.{taken_step, taken-all}
+use Rattle.ccm.proofs.Chains.{taken_step, taken_all}
 use Rattle.ccm.proofs.chain.take_in.Goals as goal
 
 pub loop-done-preserved : goal.loop-done-preserved
@@ -13,6 +13,6 @@ loop-done-preserved g c = (
 pub returns : goal.returns
 returns g c = record {
   taken_in =
-      taken-all (g.B.BlockCipher.forward c.args.schedule.now) c.loop-done.done c.loop-done.value c.args.bytes.now _
+      taken_all (g.B.BlockCipher.forward c.args.schedule.now) c.loop-done.done c.loop-done.value c.args.bytes.now _
       c.loop-done-test.false c.loop-done.invariant.1;
 }

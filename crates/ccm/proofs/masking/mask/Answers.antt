@@ -1,7 +1,7 @@
 use Rattle.std.proofs.Common.{ℕ, ◌∙◌, arith, rules}
 use Rattle.ccm.specs.Ccm.{counter_block}
 use Rattle.ccm.proofs.BlockBytes.{length-counter_block}
-use Rattle.ccm.proofs.Masks.{masked-step, masked-all, masked-is}
+use Rattle.ccm.proofs.Masks.{masked_step, masked_all, masked_is}
 use Rattle.ccm.proofs.masking.mask.Goals as goal
 
 pub loop-done-preserved : goal.loop-done-preserved
@@ -14,7 +14,7 @@ loop-done-preserved g c =
       search rules,
       (
         search rules,
-        masked-step e nonce long c.loop-done.done c.min-n.result c.loop-done.number c.mask_part.new.part
+        masked_step e nonce long c.loop-done.done c.min-n.result c.loop-done.number c.mask_part.new.part
             c.loop-done.text _ (search rules) c.loop-done-test.true c.mask_part.ensures.part_masked c.loop-done.invariant.1.1,
       ),
     )
@@ -28,7 +28,7 @@ returns g c =
     let long = λ (i : ℕ). g.met.B.BlockCipher.forward_keeps_length w (counter_block nonce i) (length-counter_block nonce i (omega arith)) in
     record {
       text_masked =
-          masked-all e nonce long c.loop-done.done c.loop-done.number c.loop-done.text _ c.loop-done-test.false
+          masked_all e nonce long c.loop-done.done c.loop-done.number c.loop-done.text _ c.loop-done-test.false
           c.loop-done.invariant.1.1
-          ∙ masked-is e nonce c.args.text.now;
+          ∙ masked_is e nonce c.args.text.now;
     }

@@ -1,12 +1,12 @@
 use Rattle.std.proofs.Common.{length, sym, subst}
-use Rattle.combined.proofs.Steps.{Expanded, expanded-there}
+use Rattle.combined.proofs.Steps.{Expanded, expanded_there}
 use Rattle.combined.proofs.keyed.expand.Goals as goal
 
 pub returns : goal.returns
 returns g c =
     let key = c.args.key.now in
     let there =
-    expanded-there (g.B.BlockCipher.scheduled (length key)) (g.B.BlockCipher.expanded key) c.args.work.now c.expand_key.new.work
+    expanded_there (g.B.BlockCipher.scheduled (length key)) (g.B.BlockCipher.expanded key) c.args.work.now c.expand_key.new.work
     c.expand_key.result c.requires.taken c.requires.work_bytes
     (λ m. g.met.B.BlockCipher.schedules_are_short (length key) m)
     (λ m. g.met.B.BlockCipher.expanding_gives_its_length key m)

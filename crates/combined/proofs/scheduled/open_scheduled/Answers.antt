@@ -1,5 +1,5 @@
 use Rattle.std.proofs.Common.{◌≡◌, length, ◌∙◌, rules}
-use Rattle.combined.proofs.Steps.{opened-counted, opened-left}
+use Rattle.combined.proofs.Steps.{opened-counted, opened_left}
 use Rattle.combined.proofs.scheduled.open_scheduled.Goals as goal
 
 pub returns : goal.returns
@@ -16,6 +16,6 @@ returns g c =
           ∙ opened-counted e nonce head eleven c.open.result out c.open.new.out y c.requires.check_size c.requires.short c.requires.room
           c.open.ensures.text_counted;
       text_or_zeros_then_old =
-          opened-left e nonce head eleven c.open.result out c.open.new.out y c.requires.check_size c.requires.short c.requires.room
+          opened_left e nonce head eleven c.open.result out c.open.new.out y c.requires.check_size c.requires.short c.requires.room
           c.open.ensures.text_or_zeros_then_old;
     }

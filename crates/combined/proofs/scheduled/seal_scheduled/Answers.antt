@@ -1,5 +1,5 @@
 use Rattle.std.proofs.Common.{◌≡◌, length, ◌∙◌, rules}
-use Rattle.combined.proofs.Steps.{sealed-counted, sealed-left}
+use Rattle.combined.proofs.Steps.{sealed-counted, sealed_left}
 use Rattle.combined.proofs.scheduled.seal_scheduled.Goals as goal
 
 pub returns : goal.returns
@@ -15,6 +15,6 @@ returns g c =
           ∙ sealed-counted e nonce head eleven c.seal.result out c.seal.new.out c.args.text c.requires.short c.requires.room
           c.seal.ensures.sealed_bytes_counted;
       sealed_bytes_then_old =
-          sealed-left e nonce head eleven c.seal.result out c.seal.new.out c.args.text c.requires.short c.requires.room
+          sealed_left e nonce head eleven c.seal.result out c.seal.new.out c.args.text c.requires.short c.requires.room
           c.seal.ensures.sealed_bytes_then_old;
     }

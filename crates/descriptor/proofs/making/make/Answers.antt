@@ -2,9 +2,9 @@ use Rattle.std.proofs.Common.{◌≡◌, ℕ, ◌≤◌, length, take, IfOk, Som
 use Rattle.descriptor.specs.Laws.{OpensTo}
 use Rattle.descriptor.specs.Making.{answer, output_after, work_after, made_bytes}
 use Rattle.descriptor.specs.declared.fault.Fault.{Fault}
-use Rattle.descriptor.proofs.Admitted.{makeable, making-refused, making-made}
-use Rattle.descriptor.proofs.RoundTrip.{opens-to}
-use Rattle.descriptor.proofs.SealingText.{made-long}
+use Rattle.descriptor.proofs.Admitted.{makeable, making-refused, making_made}
+use Rattle.descriptor.proofs.RoundTrip.{opens_to}
+use Rattle.descriptor.proofs.SealingText.{made_long}
 use Rattle.descriptor.proofs.making.make.Goals as goal
 
 pub admit-requires : goal.admit-requires
@@ -59,15 +59,15 @@ returns g c =
     let bounded = g.met.S.Suite.sizes_are_bounded suite p.triple z served in
     let admitted = sym c.admit.ensures.first_that_fits ∙ c.in_ok-admit.was in
     let fits = makeable p l.form z (length vector) (length xs) (length out) (length work) admitted in
-    let done = making-made m p l vector xs out work z served admitted in
+    let done = making_made m p l vector xs out work z served admitted in
     let long : length (made_bytes m p l vector xs out work z) ≤ length out =
-    omega (arith, fits.room, made-long m p l z vector xs (length out) (length work) (g.met.S.Suite.sealing_adds_the_check_value suite) served bounded fits out work) in
+    omega (arith, fits.room, made_long m p l z vector xs (length out) (length work) (g.met.S.Suite.sealing_adds_the_check_value suite) served bounded fits out work) in
     record {
       length_answered = c.make_fitting.ensures.length_answered ∙ ap answer (sym done);
       descriptor_then_old = c.make_fitting.ensures.descriptor_then_old ∙ ap (λ r. output_after r out) (sym done);
       work_bytes_zero = c.make_fitting.ensures.work_bytes_zero ∙ ap (λ r. work_after r work) (sym done);
       opens_to_its_data =
-          opens-to m p l z vector xs (length out) (length work) (g.met.S.Suite.opening_undoes_sealing suite)
+          opens_to m p l z vector xs (length out) (length work) (g.met.S.Suite.opening_undoes_sealing suite)
           (g.met.S.Suite.sealing_adds_the_check_value suite) served bounded fits c.all_bytes.ensures.all_are_bytes (search rules) (search rules)
           c.make_fitting.result out c.make_fitting.new.out c.make_fitting.ensures.length_answered
           c.make_fitting.ensures.descriptor_then_old long;

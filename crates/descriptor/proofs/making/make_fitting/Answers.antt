@@ -32,7 +32,7 @@ returns g c =
     let part = take (end - start) (drop start out₂) in
     let sealed = c.seal.ensures.sealed_bytes_then_old ∙ (ap (λ r. output_after r 0 part) laid.sealed ∙ laid.in_place) in
     record {
-      length_answered = ap Ok laid.length-answered;
-      descriptor_then_old = ap (put_mid start (end - start) out₂) sealed ∙ laid.descriptor-then-old;
+      length_answered = ap Ok laid.length_answered;
+      descriptor_then_old = ap (put_mid start (end - start) out₂) sealed ∙ laid.descriptor_then_old;
       work_bytes_zero = c.seal.ensures.work_bytes_zero ∙ ap (λ r. work_after r c.args.work.now) laid.sealed;
     }

@@ -6,7 +6,7 @@ use Rattle.suite.specs.Meaning as suite
 use Rattle.descriptor.specs.Opening.{answer, concluded, data_after, unpadding, work_after}
 use Rattle.descriptor.specs.Text.{data_of}
 use Rattle.descriptor.specs.declared.fault.Fault.TheVariants.{Suite}
-use Rattle.descriptor.proofs.OpeningSteps.{Bytes, given-text, failed-answer, failed-data, failed-work, written-again, work-wiped}
+use Rattle.descriptor.proofs.OpeningSteps.{Bytes, given-text, failed_answer, failed_data, failed_work, written_again, work_wiped}
 use Rattle.descriptor.proofs.opening.open_text.Goals as goal
 
 pub returns-in_err-text : goal.returns-in_err-text
@@ -20,12 +20,12 @@ returns-in_err-text g c =
     let failed : counted o ≡ Err f = sym c.open.ensures.text_counted ∙ c.in_err-text.was in
     let up : c.from_residual.result ≡ Err (Suite f) = search rules in
     record {
-      data_length_answered = up ∙ failed-answer z e o f failed;
+      data_length_answered = up ∙ failed_answer z e o f failed;
       data_then_zeros_then_old =
           c.open.ensures.text_or_zeros_then_old
           ∙ (ap (λ s. suite.output_after o (length y - check_size s) c.args.data.now) c.requires.served
-          ∙ failed-data z e o f c.args.data.now failed);
-      work_bytes_zero = c.open.ensures.work_bytes_zero ∙ failed-work z e o f c.args.work.now failed;
+          ∙ failed_data z e o f c.args.data.now failed);
+      work_bytes_zero = c.open.ensures.work_bytes_zero ∙ failed_work z e o f c.args.work.now failed;
     }
 
 pub unpad-requires : goal.unpad-requires
@@ -49,7 +49,7 @@ unpad-requires g c =
     c.open.ensures.text_or_zeros_then_old
     ∙ ap (λ r. suite.output_after r (length y - check_size (m.serves c.args.triple)) buffer) came.is in
     let long : length c.open.new.out ≡ length buffer = ap length stands ∙ length_over came.text buffer in
-    let n = came.counted-so in
+    let n = came.counted_so in
     let whole = came.whole in
     let room = came.fits.room in
     record { text_stands_there = omega arith }
@@ -79,7 +79,7 @@ returns g c =
     let stands : c.open.new.out ≡ over text buffer =
     c.open.ensures.text_or_zeros_then_old
     ∙ ap (λ r. suite.output_after r (length y - check_size (m.serves c.args.triple)) buffer) came.is in
-    let long = came.counted-so in
+    let long = came.counted_so in
     let whole = came.whole in
     let room = came.fits.room in
     let n-e : n ≡ e = omega arith in
@@ -93,9 +93,9 @@ returns g c =
           c.unpad.ensures.data_then_zeros_then_old
           ∙ (ap (λ v. data_after v c.open.new.out) (verdict ∙ ap (concluded z e) came.is)
           ∙ (ap (data_after (unpadding (data_of z text) e)) stands
-          ∙ (written-again (data_of z text) e text buffer (omega arith) ∙ ap (λ r. data_after (concluded z e r) buffer) (sym came.is))));
+          ∙ (written_again (data_of z text) e text buffer (omega arith) ∙ ap (λ r. data_after (concluded z e r) buffer) (sym came.is))));
       work_bytes_zero =
           c.open.ensures.work_bytes_zero
           ∙ (ap (λ r. suite.work_after r work) came.is
-          ∙ (sym (work-wiped (data_of z text) e work) ∙ ap (λ r. work_after (concluded z e r) work) (sym came.is)));
+          ∙ (sym (work_wiped (data_of z text) e work) ∙ ap (λ r. work_after (concluded z e r) work) (sym came.is)));
     }

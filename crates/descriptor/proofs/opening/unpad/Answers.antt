@@ -5,7 +5,7 @@ use Rattle.octets.specs.Octets.{over, zeros}
 use Rattle.padding.specs.Padding.{data_length}
 use Rattle.padding.proofs.Laws.{data_length-within}
 use Rattle.descriptor.specs.Opening.{answer, data_after, unpadding}
-use Rattle.descriptor.proofs.OpeningSteps.{text_in-clear, text-padded, text-kept, front-and-zeros}
+use Rattle.descriptor.proofs.OpeningSteps.{text_in_clear, text-padded, text-kept, front_and_zeros}
 use Rattle.descriptor.proofs.opening.unpad.Goals as goal
 
 pub slice_bounds-zero_first-end : goal.slice_bounds-zero_first-end
@@ -19,7 +19,7 @@ pub returns-then-not-sizes : goal.returns-then-not-sizes
 returns-then-not-sizes c =
     let t = c.args.text in
     let buffer = c.args.data.now in
-    let is = text_in-clear c.args.sizes (take t buffer) c.if-not-sizes.true in
+    let is = text_in_clear c.args.sizes (take t buffer) c.if-not-sizes.true in
     record {
       data_length_answered = ap Ok (sym (length-take-le t buffer c.requires.text_stands_there)) ∙ ap (λ o. answer (unpadding o t)) (sym is);
       data_then_zeros_then_old = sym (text-kept t buffer c.requires.text_stands_there) ∙ ap (λ o. data_after (unpadding o t) buffer) (sym is);
@@ -40,7 +40,7 @@ returns-in-Some c =
     record {
       data_length_answered = ap Ok (sym front_long) ∙ ap (λ o. answer (unpadding o t)) (sym is);
       data_then_zeros_then_old =
-          front-and-zeros n t c.zero_first.new.out buffer (omega arith) c.requires.text_stands_there c.zero_first.ensures.zeros_then_old
+          front_and_zeros n t c.zero_first.new.out buffer (omega arith) c.requires.text_stands_there c.zero_first.ensures.zeros_then_old
           ∙ (ap (λ k. over (take n buffer ++ zeros (t - k)) buffer) (sym front_long)
           ∙ (ap (λ w. over (w ++ zeros (t - length (take n (take t buffer)))) buffer) (sym front)
           ∙ ap (λ o. data_after (unpadding o t) buffer) (sym is)));

@@ -4,7 +4,7 @@ use Rattle.std.proofs.lemmas.List.{get_or-take}
 use Rattle.std.proofs.lemmas.Bool.{le-ltb}
 use Rattle.sha.specs.Sha256.{expanded, extended, scheduled}
 use Rattle.chaining.specs.Turns.{built, turns}
-use Rattle.chaining.proofs.Turns.{built-more, built-all}
+use Rattle.chaining.proofs.Turns.{built_more, built_all}
 use Rattle.sha.proofs.sha256.schedule.Goals as goal
 
 -- a word from place 16 on comes from the words before it
@@ -17,8 +17,8 @@ expanded-take w t above =
     simp get_or-take
 
 -- the schedule's word there
-later-words : (block w : List ℕ) (t : ℕ) → 16 ≤ t → scheduled block w t ≡ expanded w t
-later-words block w t above = rw (le-ltb t 16 above)
+later_words : (block w : List ℕ) (t : ℕ) → 16 ≤ t → scheduled block w t ≡ expanded w t
+later_words block w t above = rw (le-ltb t 16 above)
 
 -- w is the schedule up to place m
 abbrev Upto : (block w : List ℕ) (m : ℕ) → Type 0
@@ -33,10 +33,10 @@ further block w m (suc n) later fits before =
     let t = m + n in
     let so_far : Upto block u t = further block w m n later (omega arith) before in
     let above : 16 ≤ t = omega arith in
-    let reads = later-words block (take t u) t above ∙ expanded-take u t above ∙ sym (later-words block u t above) in
+    let reads = later_words block (take t u) t above ∙ expanded-take u t above ∙ sym (later_words block u t above) in
     let inside : t < length u = omega (arith, so_far.0) in
     let next : t + 1 ≡ m + suc n = omega arith in
-    let more = built-more (scheduled block) u t reads inside so_far.1 (sym (later-words block u t above)) in
+    let more = built_more (scheduled block) u t reads inside so_far.1 (sym (later_words block u t above)) in
     subst (Upto block (extended t u)) next (length-set u t (expanded u t) ∙ so_far.0, more)
 
 pub loop-i-init : goal.loop-i-init
@@ -51,4 +51,4 @@ loop-i-preserved c =
     subst (Upto block _) next (subst (λ u. Upto block u (m + 8)) (sym c.extend_by_eight.ensures.eight_words) eight-more)
 
 pub returns : goal.returns
-returns c = record { all_words = built-all _ _ (8 * c.loop-i.i) 64 (omega arith) c.loop-i.invariant.0 c.loop-i.invariant.1 }
+returns c = record { all_words = built_all _ _ (8 * c.loop-i.i) 64 (omega arith) c.loop-i.invariant.0 c.loop-i.invariant.1 }

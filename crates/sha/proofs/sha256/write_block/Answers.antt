@@ -4,12 +4,12 @@ use Rattle.std.proofs.lemmas.Bool.{lt-ltb}
 use Rattle.sha.specs.Sha256.{scheduled}
 use Rattle.chaining.specs.Turns.{built}
 use Rattle.chaining.specs.Words.{block_word}
-use Rattle.chaining.proofs.Turns.{built-more}
+use Rattle.chaining.proofs.Turns.{built_more}
 use Rattle.sha.proofs.sha256.write_block.Goals as goal
 
 -- the first 16 words of the schedule are the block's
-first-words : (block w : List ℕ) (t : ℕ) → t < 16 → scheduled block w t ≡ block_word block t
-first-words block w t below = rw (lt-ltb t 16 below)
+first_words : (block w : List ℕ) (t : ℕ) → t < 16 → scheduled block w t ≡ block_word block t
+first_words block w t below = rw (lt-ltb t 16 below)
 
 pub loop-t-init : goal.loop-t-init
 unfolding built
@@ -21,9 +21,9 @@ loop-t-preserved c =
     let block = c.args.block.now in
     let w = c.loop-t.w in
     let t = c.loop-t.t in
-    let reads = first-words block (take t w) t below ∙ sym (first-words block w t below) in
-    let word = c.block_word.ensures.most_significant_byte_first ∙ sym (first-words block w t below) in
-    (simp length-set c.loop-t.invariant.0, built-more _ _ _ reads (omega arith) c.loop-t.invariant.1 word)
+    let reads = first_words block (take t w) t below ∙ sym (first_words block w t below) in
+    let word = c.block_word.ensures.most_significant_byte_first ∙ sym (first_words block w t below) in
+    (simp length-set c.loop-t.invariant.0, built_more _ _ _ reads (omega arith) c.loop-t.invariant.1 word)
 
 pub returns : goal.returns
 returns c =

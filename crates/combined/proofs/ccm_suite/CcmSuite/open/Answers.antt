@@ -2,7 +2,7 @@ use Rattle.std.proofs.Common.{◌≡◌, ◌-◌, length, Some, sym, ap, ◌∙�
 use Rattle.suite.specs.Meaning.{counted, output_after, work_after, given, check_size, opening}
 use Rattle.suite.proofs.Guarded.{guarded}
 use Rattle.suite.proofs.Lengths.{openable}
-use Rattle.suite.proofs.Outcomes.{opening-served, opening-work}
+use Rattle.suite.proofs.Outcomes.{opening-served, opening_work}
 use Rattle.combined.specs.CcmSuite.{ccm_suite}
 use Rattle.combined.specs.CcmLaws.{terms, keyed}
 use Rattle.combined.proofs.ccm_suite.CcmSuite.open.Goals as goal
@@ -48,6 +48,6 @@ returns g c =
           ∙ (ap (λ r. output_after r (length y - 16) out) (sym opened)
           ∙ ap (λ k. output_after (opening suite t given y out work) (length y - k) out) (sym check));
       work_bytes_zero =
-          guarded _ c.open_keyed.new.work work c.drop-guard.ensures.work_bytes_zero (search rules) o.work-bytes
-          ∙ (sym (opening-work (suite.opened t given y) work) ∙ ap (λ r. work_after r work) (sym opened));
+          guarded _ c.open_keyed.new.work work c.drop-guard.ensures.work_bytes_zero (search rules) o.work_bytes
+          ∙ (sym (opening_work (suite.opened t given y) work) ∙ ap (λ r. work_after r work) (sym opened));
     }

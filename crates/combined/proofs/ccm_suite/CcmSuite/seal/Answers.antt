@@ -40,6 +40,6 @@ returns g c =
       sealed_bytes_counted = c.seal_keyed.ensures.sealed_bytes_counted ∙ ap counted (sym sealed);
       sealed_bytes_then_old = c.seal_keyed.ensures.sealed_bytes_then_old ∙ ap (λ r. output_after r 0 out) (sym sealed);
       work_bytes_zero =
-          guarded _ c.seal_keyed.new.work work c.drop-guard.ensures.work_bytes_zero (search rules) s.work-bytes
+          guarded _ c.seal_keyed.new.work work c.drop-guard.ensures.work_bytes_zero (search rules) s.work_bytes
           ∙ ap (λ r. work_after r work) (sym sealed);
     }

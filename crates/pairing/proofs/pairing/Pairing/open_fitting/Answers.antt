@@ -6,14 +6,14 @@ use Rattle.octets.specs.Octets.{over, zeros}
 use Rattle.suite.specs.Cipher.{done, text_after}
 use Rattle.suite.specs.Meaning.{given, counted, output_after}
 use Rattle.suite.specs.declared.fault.Fault.TheVariants.{Mismatch}
-use Rattle.pairing.specs.PairingLaws.{sizes-are-bounded, sides, check-length, whole-units}
-use Rattle.pairing.proofs.PairingSteps.{ciphers-through, compared, front-of-over, opened-in-place}
+use Rattle.pairing.specs.PairingLaws.{sizes_are_bounded, sides, check-length, whole-units}
+use Rattle.pairing.proofs.PairingSteps.{ciphers_through, compared, front_of_over, opened_in_place}
 use Rattle.pairing.proofs.pairing.Pairing.open_fitting.Goals as goal
 
 pub slice_bounds-same_octets-end-2 : goal.slice_bounds-same_octets-end-2
 slice_bounds-same_octets-end-2 g c =
     let bound =
-    sizes-are-bounded (g.C.Cipher.ciphers c.args.self.now.cipher) (g.I.Integrity.checks c.args.self.now.integrity)
+    sizes_are_bounded (g.C.Cipher.ciphers c.args.self.now.cipher) (g.I.Integrity.checks c.args.self.now.integrity)
     (g.met.C.Cipher.cipher_sizes_are_bounded c.args.self.now.cipher)
     (g.met.I.Integrity.integrity_sizes_are_bounded c.args.self.now.integrity)
     c.args.triple c.args.sizes c.requires.served in
@@ -30,7 +30,7 @@ returns-then-not-same_octets g c =
     let n = length y - z.check in
     let out = c.args.out.now in
     let bound =
-    sizes-are-bounded cipher integrity (g.met.C.Cipher.cipher_sizes_are_bounded c.args.self.now.cipher)
+    sizes_are_bounded cipher integrity (g.met.C.Cipher.cipher_sizes_are_bounded c.args.self.now.cipher)
     (g.met.I.Integrity.integrity_sizes_are_bounded c.args.self.now.integrity) t z c.requires.served in
     let long =
     check-length cipher integrity (g.met.I.Integrity.check_value_has_its_size c.args.self.now.integrity) t z given
@@ -53,8 +53,8 @@ returns-in_err-decipher g c =
     let part = take (n - 0) c.copy_over.new.out in
     let long : length part ≡ n = search rules in
     let through =
-    ciphers-through cipher integrity c.args.triple c.args.sizes (given c.args.inputs) c.requires.served f.lengths
-    cipher.deciphered part c.args.work.now (ap (λ m. m % c.args.sizes.unit) long ∙ f.units) f.work-bytes in
+    ciphers_through cipher integrity c.args.triple c.args.sizes (given c.args.inputs) c.requires.served f.lengths
+    cipher.deciphered part c.args.work.now (ap (λ m. m % c.args.sizes.unit) long ∙ f.units) f.work_bytes in
     let fine = c.decipher.ensures.whether_done ∙ ap done through in
     let failed = c.in_err-decipher.was in
     let z : ◌≡◌ {A = ℕ} 0 1 = cc in
@@ -73,7 +73,7 @@ returns g c =
     let f = c.requires.fits in
     let side = sides cipher integrity t z given c.requires.served f.lengths in
     let bound =
-    sizes-are-bounded cipher integrity (g.met.C.Cipher.cipher_sizes_are_bounded c.args.self.now.cipher)
+    sizes_are_bounded cipher integrity (g.met.C.Cipher.cipher_sizes_are_bounded c.args.self.now.cipher)
     (g.met.I.Integrity.integrity_sizes_are_bounded c.args.self.now.integrity) t z c.requires.served in
     let long =
     check-length cipher integrity (g.met.I.Integrity.check_value_has_its_size c.args.self.now.integrity) t z given side (take n y) in
@@ -81,15 +81,15 @@ returns g c =
     compared cipher integrity t z given y c.requires.served n z.check true c.same_octets.result c.check_value.new.out (zeros 32) refl refl
     long bound.check c.check_value.ensures.check_value_then_old c.same_octets.ensures.whether_all_are_equal
     c.if-not-same_octets.false in
-    let part-long : length (take (n - 0) c.copy_over.new.out) ≡ n = search rules in
+    let part_long : length (take (n - 0) c.copy_over.new.out) ≡ n = search rules in
     let e-long : length (take (n - 0) y) ≡ n = search rules in
     let n-long : length (take n y) ≡ n = length-take-le n y (omega arith) in
     let through =
-    ciphers-through cipher integrity t z given c.requires.served f.lengths cipher.deciphered (take (n - 0) c.copy_over.new.out)
-    c.args.work.now (ap (λ m. m % z.unit) part-long ∙ f.units) f.work-bytes in
+    ciphers_through cipher integrity t z given c.requires.served f.lengths cipher.deciphered (take (n - 0) c.copy_over.new.out)
+    c.args.work.now (ap (λ m. m % z.unit) part_long ∙ f.units) f.work_bytes in
     let x = cipher.deciphered given.key given.vector (take n y) in
     let front : take (n - 0) c.copy_over.new.out ≡ take n y =
-    front-of-over (take (n - 0) y) c.copy_over.new.out out n (n - 0) (sub-zero n) e-long f.room c.copy_over.ensures.bytes_then_old
+    front_of_over (take (n - 0) y) c.copy_over.new.out out n (n - 0) (sub-zero n) e-long f.room c.copy_over.ensures.bytes_then_old
     ∙ ap (λ m. take m y) (sub-zero n) in
     let x-is : c.decipher.new.text ≡ x =
     c.decipher.ensures.deciphered
@@ -103,6 +103,6 @@ returns g c =
       text_or_zeros_then_old =
           ap (λ w. w ++ drop (n - 0) c.copy_over.new.out) x-is
           ∙ (ap (λ w. x ++ drop (n - 0) w) c.copy_over.ensures.bytes_then_old
-          ∙ (opened-in-place x (take (n - 0) y) out n (n - 0) (sub-zero n) x-long e-long f.room
+          ∙ (opened_in_place x (take (n - 0) y) out n (n - 0) (sub-zero n) x-long e-long f.room
           ∙ ap (λ o. output_after (ok_or o Mismatch) n out) (sym some)));
     }

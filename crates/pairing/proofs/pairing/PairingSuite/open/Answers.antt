@@ -2,7 +2,7 @@ use Rattle.std.proofs.Common.{◌≡◌, ◌-◌, length, Some, sym, ap, ◌∙�
 use Rattle.suite.specs.Meaning.{counted, output_after, work_after, given, check_size, opening}
 use Rattle.suite.proofs.Guarded.{guarded}
 use Rattle.suite.proofs.Lengths.{openable}
-use Rattle.suite.proofs.Outcomes.{opening-served, opening-work}
+use Rattle.suite.proofs.Outcomes.{opening-served, opening_work}
 use Rattle.pairing.specs.Pairing.{pairing}
 use Rattle.pairing.proofs.pairing.PairingSuite.open.Goals as goal
 
@@ -11,7 +11,7 @@ open_fitting-requires g c =
     let o = openable _ _ _ _ _ _ (sym c.fit_opening.ensures.whether_it_may_be_opened ∙ c.if-not-fit_opening.false) in
     record {
       served = search rules;
-      fits = record { lengths = o.lengths; check = o.check; units = o.units; short = o.short; room = o.room; work-bytes = search rules };
+      fits = record { lengths = o.lengths; check = o.check; units = o.units; short = o.short; room = o.room; work_bytes = search rules };
     }
 
 pub returns : goal.returns
@@ -34,6 +34,6 @@ returns g c =
           ∙ (ap (λ r. output_after r (length y - z.check) out) (sym opened)
           ∙ ap (λ s. output_after (opening pair t given y out work) (length y - check_size s) out) (sym served));
       work_bytes_zero =
-          guarded _ c.open_fitting.new.work work c.drop-guard.ensures.work_bytes_zero (search rules) o.work-bytes
-          ∙ (sym (opening-work (pair.opened t given y) work) ∙ ap (λ r. work_after r work) (sym opened));
+          guarded _ c.open_fitting.new.work work c.drop-guard.ensures.work_bytes_zero (search rules) o.work_bytes
+          ∙ (sym (opening_work (pair.opened t given y) work) ∙ ap (λ r. work_after r work) (sym opened));
     }

@@ -11,7 +11,7 @@ seal_fitting-requires g c =
     let s = sealable _ _ _ _ _ _ (sym c.fit_sealing.ensures.whether_it_may_be_sealed ∙ c.if-not-fit_sealing.false) in
     record {
       served = search rules;
-      fits = record { lengths = s.lengths; units = s.units; short = s.short; room = s.room; work-bytes = search rules };
+      fits = record { lengths = s.lengths; units = s.units; short = s.short; room = s.room; work_bytes = search rules };
     }
 
 pub returns : goal.returns
@@ -29,6 +29,6 @@ returns g c =
       sealed_bytes_counted = c.seal_fitting.ensures.sealed_bytes_counted ∙ ap counted (sym sealed);
       sealed_bytes_then_old = c.seal_fitting.ensures.sealed_bytes_then_old ∙ ap (λ r. output_after r 0 out) (sym sealed);
       work_bytes_zero =
-          guarded _ c.seal_fitting.new.work work c.drop-guard.ensures.work_bytes_zero (search rules) s.work-bytes
+          guarded _ c.seal_fitting.new.work work c.drop-guard.ensures.work_bytes_zero (search rules) s.work_bytes
           ∙ ap (λ r. work_after r work) (sym sealed);
     }
