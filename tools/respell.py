@@ -1,137 +1,567 @@
 #!/usr/bin/env python3
-"""Respells the repository's own definitions and lemmas, once, after port.py.
+"""Respells the repository's own definitions and lemmas, once, after the kit's port.py.
 
-Run at the top of the repository. Words come out in snake case, facts (definitions in `Type 0`, records and data) in
-upper camel case, and a dash still joins two names. Functions of src/, strings, inputs and outputs keep their names.
-It prints each renaming, and any new name that was a word of the tree before.
+Run at the top of the repository: tools/respell.py [--dry]. Words come out in snake case, facts (definitions in `Type 0`,
+records and data) in upper camel case, and a dash stays where it joins two names. Functions of src/, strings, inputs and
+outputs keep their names. Symbols of a standard (K, W, Ch, Maj, Parity, ROTR) keep the standard's letters.
 """
 import pathlib
 import re
 import sys
 
 TOKEN = re.compile(r"[^\W\d][\w'′₀₁₂₃]*(?:-[\w'′]+)*")
-DECLARED = re.compile(
-    r"^\s*(?P<lead>(?:abbrev |unfoldable |pub |record |data |axiom )*)(?P<name>[^\W\d][\w'′\-]*)(?P<rest> .*)$"
-)
-FIELD = re.compile(r"^\s+pub (?P<name>[^\W\d][\w'′\-]*) :")
-MEMBER = re.compile(r"^\s+ghost (?P<name>[^\W\d][\w\-]*)\s*[:=]")
 
-# Words that port.py wrote together, and names whose parts a rule can't tell.
-BY_HAND = {
-    "opened-at": "pair_opened-opened_at",
-    "initialcount": "initial_count",
-    "turnedcount": "turned_count",
-    "authHmacSha196": "auth_hmac_sha1_96",
-    "authHmacSha2256128": "auth_hmac_sha2_256_128",
-    "authHmacSha2512256": "auth_hmac_sha2_512_256",
-    "getD": "get_or",
-    "sBox": "s_box",
-    "invSBox": "inv_s_box",
-    "sBoxTable": "s_box_table",
-    "invSBoxTable": "inv_s_box_table",
-}
-
-
-def snake(word):
-    return re.sub(r"(?<=[a-z0-9])(?=[A-Z])", "_", word).lower().replace("′", "'")
-
-
-def spell_part(part):
-    if part in BY_HAND:
-        return BY_HAND[part]
-    return snake(part) if part[0].islower() and re.search(r"[A-Z]", part) else part.replace("′", "'")
-
-
-def camel(name):
-    parts = name.split("-")
-    return parts[0] + "".join(p[0].upper() + p[1:] for p in parts[1:])
-
-
-def is_fact(lead, rest):
-    return "record" in lead or "data" in lead or re.search(r"(^| )Type 0( where)?$", rest.strip()) is not None
-
-
-# Parts of a lemma's name that stand for something of the library: a dash joins them, as in std's own lemmas.
-OF_THE_LIBRARY = set(
-    "nil cons suc zero true false append length take drop get_or map replicate lt le eq sum octets number set pow xor".split()
-)
-
-# Words of a sentence: a name that has one is no pair of names.
-PLAIN = set("a the is are was be may not no so and of by to in at from as with if one two first".split())
-
-
-def new_name(name, fact, names):
-    """A dash stays between two names; a plain word is joined by `_`."""
-    if name in BY_HAND:
-        return BY_HAND[name]
-    if fact and name[0].isupper():
-        return camel(name)
-    if name[0].isupper():
-        return name
-    parts = [spell_part(p) for p in name.split("-")]
-    if PLAIN & set(parts):
-        return "_".join(parts)
-    new = parts[0]
-    for before, part in zip(parts, parts[1:]):
-        new += ("-" if before in names and part in names else "_") + part
-    return new
-
-
-def files():
-    found = []
-    for p in sorted(pathlib.Path("crates").rglob("*")):
-        if p.suffix in (".rt", ".antt") and "out" not in p.parts and "target" not in p.parts:
-            found.append(p)
-    return found
-
-
-def declared(path, text):
-    """The names that a file declares, but for the answers to goals, with whether each is a fact."""
-    for line in text.split("\n"):
-        if path.suffix == ".rt":
-            m = MEMBER.match(line)
-            if m:
-                yield m["name"], False
-            continue
-        m = FIELD.match(line)
-        if m:
-            yield m["name"], False
-            continue
-        m = DECLARED.match(line)
-        if m and re.search(r"(^|\s):( |$)", m["rest"]) and not re.match(r" : (goal|given|need)\.", m["rest"]):
-            yield m["name"], is_fact(m["lead"], m["rest"])
+# The old name and the new one. Four pairs fall together on purpose: a lemma that proves a law, always named by way of
+# its module, has the law's name (sizes_are_bounded, sealing_adds_the_check_value, what_opens_was_sealed,
+# mismatch_when_no_text_seals).
+NAMES = """
+All-bytes AllBytes
+Bounded-cipher BoundedCipher
+Bounded-integrity BoundedIntegrity
+Bytes-for-bytes BytesForBytes
+Check-value-has-its-size CheckValueHasItsSize
+Cipher-sizes-are-bounded CipherSizesAreBounded
+Data-of DataOf
+Deciphering-undoes-enciphering DecipheringUndoesEnciphering
+Enciphering-undoes-deciphering EncipheringUndoesDeciphering
+Exactly-when ExactlyWhen
+Fitting-cipher FittingCipher
+Given-text GivenText
+Gives-bytes GivesBytes
+Integrity-sizes-are-bounded IntegritySizesAreBounded
+Keeps-block KeepsBlock
+Keeps-length KeepsLength
+Mismatch-when-no-text-seals MismatchWhenNoTextSeals
+Named-code NamedCode
+No-text-seals-to NoTextSealsTo
+Octets-of OctetsOf
+Opening-undoes-sealing OpeningUndoesSealing
+Opens-in OpensIn
+Opens-to OpensTo
+Reserved-code ReservedCode
+Restricted-code RestrictedCode
+Sealed-data SealedData
+Sealing-adds-the-check-value SealingAddsTheCheckValue
+Sealing-gives-bytes SealingGivesBytes
+Sealing-of SealingOf
+Sizes-are-bounded SizesAreBounded
+Text-of TextOf
+Vendor-specific-code VendorSpecificCode
+What-opens-was-sealed WhatOpensWasSealed
+addRoundKey add_round_key
+addRoundKey-twice add_round_key_twice
+aesCbc aes_cbc
+aesCcm aes_ccm
+aesGcm aes_gcm
+affineBit affine_bit
+all-absorbed all_absorbed
+all-served all_served
+all-stand all_stand
+allAgree all_agree
+and-true and_true
+at-sai at_sai
+at-sealed at_sealed
+at-sqn at_sqn
+at-vector at_vector
+authCombined auth_combined
+authHmacSha196 auth_hmac_sha1_96
+authHmacSha2256128 auth_hmac_sha2_256_128
+authHmacSha2512256 auth_hmac_sha2_512_256
+bankOpened bank_opened
+bankSealed bank_sealed
+bankServes bank_serves
+behind-front behind_front
+behind-is behind_is
+bigEndian big_endian
+bigEndian-cons big_endian-cons
+bigEndian-descending big_endian-descending
+bigEndian-number big_endian-number
+bigEndian-push big_endian_push
+bits-sum bits_sum
+blockWord block_word
+built-all built_all
+built-more built_more
+by-trailer by_trailer
+bytes-at bytes_at
+cbc-hmac cbc_hmac
+cbc-rows cbc_rows
+cbcCipher cbc_cipher
+cbcDeciphered cbc_deciphered
+cbcEnciphered cbc_enciphered
+cbcFits cbc_fits
+cbcServes cbc_serves
+cbcSizes cbc_sizes
+ccm-alone ccm_alone
+ccm-rows ccm_rows
+ccmOpened ccm_opened
+ccmSealed ccm_sealed
+ccmServes ccm_serves
+ccmSizes ccm_sizes
+ccmSuite ccm_suite
+check-after-protected check_after_protected
+check-is check_is
+check-part check_part
+check-to-end check_to_end
+checkPlaced check_placed
+checkSize check_size
+checkValue check_value
+checkValueHasItsSize check_value_has_its_size
+cipher-back cipher_back
+cipher-told cipher_told
+cipherSizesAreBounded cipher_sizes_are_bounded
+cipheringBy ciphering_by
+ciphers-through ciphers_through
+concluded-end concluded_end
+cond-lt cond_lt
+cond-sum cond_sum
+counted-ok counted_ok
+counted-so counted_so
+counterBlock counter_block
+data-alone data_alone
+data-back-by data_back_by
+data-bytes data_bytes
+dataAfter data_after
+dataEnd data_end
+dataEnd-padded data_end-padded
+dataLength data_length
+dataLength-within data_length-within
+decipheredBlocks deciphered_blocks
+deciphering-ends deciphering_ends
+deciphering-more deciphering_more
+deciphering-starts deciphering_starts
+deciphering-undoes deciphering_undoes
+decipheringGivesBytes deciphering_gives_bytes
+decipheringKeepsLength deciphering_keeps_length
+decipheringUndoesEnciphering deciphering_undoes_enciphering
+descriptor-then-old descriptor_then_old
+digestAfter digest_after
+digestOf digest_of
+double-sum double_sum
+drop-behind drop_behind
+eight-turns eight_turns
+eight-words eight_words
+elements-are elements_are
+eleven-fits eleven_fits
+encipheredBlocks enciphered_blocks
+enciphering-ends enciphering_ends
+enciphering-more enciphering_more
+enciphering-starts enciphering_starts
+enciphering-undoes enciphering_undoes
+encipheringGivesBytes enciphering_gives_bytes
+encipheringKeepsLength enciphering_keeps_length
+encipheringUndoesDeciphering enciphering_undoes_deciphering
+encodedLength encoded_length
+encrNull encr_null
+encryptionFits encryption_fits
+encryptionName encryption_name
+encryptionNames encryption_names
+encryptionRow encryption_row
+encryptionTable encryption_table
+end-in-list end_in_list
+end-of-frame end_of_frame
+end-one end_one
+end-two end_two
+even-rows even_rows
+expanded-there expanded_there
+expandingGivesBytes expanding_gives_bytes
+expandingGivesItsLength expanding_gives_its_length
+failed-answer failed_answer
+failed-data failed_data
+failed-work failed_work
+field-read field_read
+fills-from-rest fills_from_rest
+finalRound final_round
+first-at first_at
+first-is first_is
+first-long first_long
+first-words first_words
+firstBlock first_block
+firstFit first_fit
+firstMasked first_masked
+fits-of fits_of
+five-words five_words
+flags-byte flags_byte
+form-of-span form_of_span
+forwardGivesBytes forward_gives_bytes
+forwardKeepsLength forward_keeps_length
+forwardUndoesInverse forward_undoes_inverse
+four-at four_at
+frame-unserved frame_unserved
+frameOpening frame_opening
+frameOpeningBy frame_opening_by
+frameTests frame_tests
+framed-as framed_as
+framed-there framed_there
+from-sai from_sai
+from-words from_words
+front-and-sealed front_and_sealed
+front-and-zeros front_and_zeros
+front-of-over front_of_over
+getD-lt get_or-lt
+givenIn given_in
+givenTo given_to
+going-ends going_ends
+going-starts going_starts
+grown-more grown_more
+head-is head_is
+headed-is headed_is
+hmacIntegrity hmac_integrity
+hmacServes hmac_serves
+hmacSizes hmac_sizes
+in-a-row-short in_a_row_short
+inClear in_clear
+initialcount initial_count
+integrity-told integrity_told
+integrityFits integrity_fits
+integrityName integrity_name
+integrityNames integrity_names
+integrityRow integrity_row
+integritySizesAreBounded integrity_sizes_are_bounded
+integrityTable integrity_table
+invCipher inv_cipher
+invCipher-back inv_cipher_back
+invFinalRound inv_final_round
+invMixColumns inv_mix_columns
+invMixColumns-mixColumns inv_mix_columns-mix_columns
+invMixed inv_mixed
+invMixed-lt inv_mixed-lt
+invRound inv_round
+invRound-back inv_round_back
+invRounds-back inv_rounds_back
+invRoundsFrom inv_rounds_from
+invRoundsFrom-more inv_rounds_from_more
+invSBox inv_s_box
+invSBox-lt inv_s_box-lt
+invSBox-sBox inv_s_box-s_box
+invSBoxTable inv_s_box_table
+invShiftRows inv_shift_rows
+invShiftRows-shiftRows inv_shift_rows-shift_rows
+invSubBytes inv_sub_bytes
+invSubBytes-subBytes inv_sub_bytes-sub_bytes
+inverse-rule inverse_rule
+inverseGivesBytes inverse_gives_bytes
+inverseKeepsLength inverse_keeps_length
+inverseUndoesForward inverse_undoes_forward
+is-parted is_parted
+key-bytes key_bytes
+keyBlock key_block
+keysAreShort keys_are_short
+keysFit keys_fit
+lastBlock last_block
+lastEnciphered last_enciphered
+lastGiven last_given
+lastValue last_value
+later-words later_words
+leadOf lead_of
+least-if-below least_if_below
+leastPad least_pad
+leastPad-at-most-15 least_pad_at_most_15
+leastPad-below least_pad-below
+length-answered length_answered
+length-bigEndian length-big_endian
+length-checkValue length-check_value
+length-counterBlock length-counter_block
+length-encoded length_encoded
+length-firstBlock length-first_block
+length-headOf length-head_of
+length-leadOf length-lead_of
+length-nextWord length-next_word
+length-of-vector length_of_vector
+length-takenIn length-taken_in
+length-text-by length_text_by
+length-text_in-clear length_text_in_clear
+length-wholeCheck length-whole_check
+length-wordBytes length-word_bytes
+lengthSize length_size
+lengthsFit lengths_fit
+macAfter mac_after
+made-long made_long
+madeBytes made_bytes
+madeLength made_length
+makeTests make_tests
+making-made making_made
+makingBy making_by
+masked-all masked_all
+masked-first masked_first
+masked-is masked_is
+masked-step masked_step
+masked-twice masked_twice
+maskedFrom masked_from
+maskedFrom-more masked_from_more
+middle-length middle_length
+mismatch-when-no-text-seals mismatch_when_no_text_seals
+mismatchWhenNoTextSeals mismatch_when_no_text_seals
+mixBy mix_by
+mixColumns mix_columns
+mixColumns-invMixColumns mix_columns-inv_mix_columns
+mixColumns-prepared mix_columns-prepared
+mixed-back mixed_back
+more-absorbed more_absorbed
+moved-movedBack moved-moved_back
+movedBack moved_back
+movedBack-moved moved_back-moved
+namedCodes named_codes
+nextWord next_word
+nextWord-front next_word-front
+none-is-not-some none_is_not_some
+null-hmac null_hmac
+null-row null_row
+nullCipher null_cipher
+nullCode null_code
+nullHmacSha2256128 null_hmac_sha2_256_128
+nullServes null_serves
+nullSizes null_sizes
+number-bigEndian number-big_endian
+number-bigEndian-mod number-big_endian_mod
+numberAfter-is number_after_is
+octets-bigEndian octets-big_endian
+octets-by octets_by
+octets-checkValue octets-check_value
+octets-counterBlock octets-counter_block
+octets-counting octets_counting
+octets-encodedLength octets-encoded_length
+octets-firstBlock octets-first_block
+octets-rconTable octets-rcon_table
+octets-replaced octets_replaced
+octets-roundKey octets-round_key
+octets-wordBytes octets-word_bytes
+odd-rows odd_rows
+ok-one ok_one
+one-before one_before
+one-data one_data
+one-row one_row
+opened-as opened_as
+opened-at pair_opened-opened_at
+opened-in-place opened_in_place
+opened-left opened_left
+opened-outcome opened_outcome
+opened-output opened_output
+openedAt opened_at
+opening-work opening_work
+openingAt opening_at
+openingBy opening_by
+openingFits opening_fits
+openingUndoesSealing opening_undoes_sealing
+opens-to opens_to
+opens-to-its-data opens_to_its_data
+outputAfter output_after
+out₁-is out₁_is
+out₂-is out₂_is
+over-all over_all
+over-more over_more
+over-part over_part
+over-past over_past
+over-two over_two
+own-sai own_sai
+own-sqn own_sqn
+padLength pad_length
+padLength-padded pad_length-padded
+padTo pad_to
+padTo-below pad_to-below
+padTo-fills pad_to-fills
+padTo-from-rest pad_to_from_rest
+padded-one-way padded_one_way
+paddedLength padded_length
+paddedLength-multiple padded_length-multiple
+padding-is padding_is
+pairOpened pair_opened
+pairSealed pair_sealed
+pairServes pair_serves
+part-ends part_ends
+part-is part_is
+part-long part_long
+partTests part_tests
+parted-as parted_as
+parts-open parts_open
+partsOpening parts_opening
+passed-from-ok passed_from_ok
+placed-behind placed_behind
+placed-part placed_part
+placed-start placed_start
+placed-two placed_two
+pow-256 pow_256
+product-1 product_1
+product-2 product_2
+product-3 product_3
+product-9 product_9
+product-b product_b
+product-d product_d
+product-e product_e
+product-sum product_sum
+product-sum4 product_sum4
+protected-after-vector protected_after_vector
+protected-length length-protected
+protected-long protected_long
+protectedLength protected_length
+ramp-step ramp_step
+rconTable rcon_table
+replaced-back replaced_back
+restricted-from restricted_from
+rotWord rot_word
+round-back round_back
+roundAt round_at
+roundKey round_key
+rounds-back rounds_back
+roundsTo rounds_to
+roundsTo-more rounds_to_more
+roundsTo-none rounds_to-none
+sBox s_box
+sBox-invSBox s_box-inv_s_box
+sBox-lt s_box-lt
+sBox-rule s_box_rule
+sBoxTable s_box_table
+sai-read sai_read
+same-push same_push
+same-refusal same_refusal
+same-sizes same_sizes
+schedule-first schedule_first
+schedule-of schedule_of
+scheduleServed schedule_served
+scheduled-cases scheduled_cases
+schedulesAreShort schedules_are_short
+sealed-data sealed_data
+sealed-in-place sealed_in_place
+sealed-left sealed_left
+sealed-outcome sealed_outcome
+sealed-there sealed_there
+sealedIn sealed_in
+sealing-adds-the-check-value sealing_adds_the_check_value
+sealingAddsTheCheckValue sealing_adds_the_check_value
+sealingBy sealing_by
+sealingFits sealing_fits
+sealingGivesBytes sealing_gives_bytes
+served-with served_with
+servedBy served_by
+shiftRows shift_rows
+shiftRows-invShiftRows shift_rows-inv_shift_rows
+shiftRows-subBytes shift_rows-sub_bytes
+shortKey short_key
+sizes-are-bounded sizes_are_bounded
+sizesAreBounded sizes_are_bounded
+sizesOf sizes_of
+sizesWhere sizes_where
+some-check some_check
+some-data some_data
+some-text-by some_text_by
+some-unit some_unit
+something-associated something_associated
+sortName sort_name
+sqn-before-end sqn_before_end
+sqn-read sqn_read
+sqnEnd sqn_end
+standardOffers standard_offers
+standardServes standard_serves
+stands-with stands_with
+state-addRoundKey state_add_round_key
+state-added state_added
+state-cipher state_cipher
+state-filled state_filled
+state-forward state_forward
+state-invCipher state_inv_cipher
+state-invMixColumns state_inv_mix_columns
+state-invRound state_inv_round
+state-invRoundsFrom state_inv_rounds_from
+state-invShiftRows state_inv_shift_rows
+state-invSubBytes state_inv_sub_bytes
+state-inverse state_inverse
+state-mixColumns state_mix_columns
+state-mixed state_mixed
+state-moved state_moved
+state-movedBack state_moved_back
+state-replaced state_replaced
+state-round state_round
+state-roundsTo state_rounds_to
+state-shiftRows state_shift_rows
+state-subBytes state_sub_bytes
+subBytes sub_bytes
+subBytes-invSubBytes sub_bytes-inv_sub_bytes
+subWord sub_word
+subWord-out sub_word_out
+suite-opens suite_opens
+suiteOpening suite_opening
+sum4-columns sum4_columns
+sum4-pairs sum4_pairs
+sum4-turned-back sum4-turned_back
+sum4-turned-twice sum4-turned_twice
+taken-all taken_all
+taken-apart taken_apart
+taken-first taken_first
+takenIn taken_in
+takenIn-more taken_in_more
+takenIn-nil taken_in-nil
+takenIn-parts taken_in-parts
+text-is-sealed text_is_sealed
+text-is-short text_is_short
+text-may-be-sealed text_may_be_sealed
+text-of-data text_of_data
+text-there text_there
+textAfter text_after
+textFits text_fits
+textLength text_length
+text_in-clear text_in_clear
+trailed-is trailed_is
+trailer-behind-data trailer_behind_data
+trailer-made trailer_made
+turned-out turned_out
+turnedcount turned_count
+two-before two_before
+two-rows two_rows
+undoes-only-padding undoes_only_padding
+undoes-padding undoes_padding
+unit-in-clear unit_in_clear
+units-by units_by
+unmasked-is unmasked_is
+vector-after-sqn vector_after_sqn
+vector-bytes vector_bytes
+vendor-from vendor_from
+vendor-true vendor_true
+vendorSpecific vendor_specific
+walk-back walk_back
+wellPadded well_padded
+wellPadded-cut well_padded-cut
+wellPadded-is well_padded_is
+wellPadded-padded well_padded-padded
+what-opens what_opens
+what-opens-was-sealed what_opens_was_sealed
+whatOpensWasSealed what_opens_was_sealed
+wholeBlocks whole_blocks
+wholeCheck whole_check
+wiped-all wiped_all
+wiped-is wiped_is
+wiped-part wiped_part
+withLabel with_label
+wordBytes-push word_bytes_push
+work-bytes work_bytes
+work-wiped work_wiped
+workAfter work_after
+written-again written_again
+written-first written_first
+xor-swap xor_swap
+xor-twice xor_twice
+xored-all xored_all
+xored-comm xored_comm
+xored-more xored_more
+xored-next xored_next
+xored-twice xored_twice
+xtime-twice-sum xtime_twice_sum
+yield-of yield_of
+zeroCount zero_count
+zeros-end zeros_end
+zeros-split zeros_split
+"""
 
 
 def main():
-    texts = {p: p.read_text(encoding="utf-8") for p in files()}
-    words = {}
-    for p, text in texts.items():
-        for m in TOKEN.finditer(text):
-            words.setdefault(m[0], set()).add(p)
-    found = [pair for p, text in texts.items() for pair in declared(p, text)]
-    names = OF_THE_LIBRARY | {spell_part(name) for name, fact in found if "-" not in name and not name[0].isupper()}
-    table = {}
-    for name, fact in found:
-        if name not in table:
-            new = new_name(name, fact, names)
-            if new != name:
-                table[name] = new
-    for name in sorted(table):
-        met = [q for q in sorted(words.get(table[name], ())) if q in words[name]]
-        note = f"   (a word of {', '.join(map(str, met))} before)" if met else ""
-        print(f"{name} -> {table[name]}{note}")
-    targets = {}
-    for name, new in table.items():
-        targets.setdefault(new, []).append(name)
-    for new, old in targets.items():
-        if len(old) > 1:
-            print(f"fall together: {', '.join(sorted(old))} -> {new}")
-    if "--dry" in sys.argv:
-        return
-    for p, text in texts.items():
+    table = dict(line.split() for line in NAMES.strip().split("\n"))
+    for path in sorted(pathlib.Path("crates").rglob("*")):
+        if path.suffix not in (".rt", ".antt") or "out" in path.parts or "target" in path.parts:
+            continue
+        text = path.read_text(encoding="utf-8")
         spelled = TOKEN.sub(lambda m: table.get(m[0], m[0]), text)
         if spelled != text:
-            p.write_text(spelled, encoding="utf-8")
+            print(path)
+            if "--dry" not in sys.argv:
+                path.write_text(spelled, encoding="utf-8")
 
 
 main()

@@ -10,7 +10,7 @@ use Rattle.algorithms.specs.HmacIntegrity.{possible, hmac_serves}
 
 -- the sizes told are the algorithm's own
 pub record Terms (size : ℕ) (own z : IntegritySizes) : Type 0 where
-  pub same-sizes : own ≡ z
+  pub same_sizes : own ≡ z
   pub key : z.key ≤ 32
   pub some_check : 1 ≤ z.check
   pub check : z.check ≤ 32
@@ -25,7 +25,7 @@ told size true own z p e =
     let b = and_parts (nat_le 1 z.check) (nat_le z.check 32 && nat_le z.check size) a.1 in
     let c = and_parts (nat_le z.check 32) (nat_le z.check size) b.1 in
     record {
-      same-sizes = is;
+      same_sizes = is;
       key = leb-true _ _ a.0;
       some_check = leb-true _ _ b.0;
       check = leb-true _ _ c.0;

@@ -47,36 +47,36 @@ impl<B: BlockCipher> Cipher for Cbc<B> {
     ghost enciphering_gives_bytes = { λ s code z k v x f h.
         let t = served B.BlockCipher.scheduled s.code code (length k) z f.told in
         let w = B.BlockCipher.expanded k in
-        let bytes = B.BlockCipher.expanding_gives_bytes k t.schedule t.taken f.key-bytes in
+        let bytes = B.BlockCipher.expanding_gives_bytes k t.schedule t.taken f.key_bytes in
         octets-enciphered (B.BlockCipher.forward w) (B.BlockCipher.forward_keeps_length w)
         (λ b. B.BlockCipher.forward_gives_bytes w b bytes) v x
-        (record { long = f.length_of_vector ∙ t.vector; bytes = f.vector-bytes })
+        (record { long = f.length_of_vector ∙ t.vector; bytes = f.vector_bytes })
         (ap (λ u. length x % u) (sym t.unit) ∙ h.units) h.bytes };
 
     ghost deciphering_gives_bytes = { λ s code z k v x f h.
         let t = served B.BlockCipher.scheduled s.code code (length k) z f.told in
         let w = B.BlockCipher.expanded k in
-        let bytes = B.BlockCipher.expanding_gives_bytes k t.schedule t.taken f.key-bytes in
+        let bytes = B.BlockCipher.expanding_gives_bytes k t.schedule t.taken f.key_bytes in
         octets-deciphered (B.BlockCipher.inverse w) (B.BlockCipher.inverse_keeps_length w)
         (λ b. B.BlockCipher.inverse_gives_bytes w b bytes) v x
-        (record { long = f.length_of_vector ∙ t.vector; bytes = f.vector-bytes })
+        (record { long = f.length_of_vector ∙ t.vector; bytes = f.vector_bytes })
         (ap (λ u. length x % u) (sym t.unit) ∙ h.units) h.bytes };
 
     ghost deciphering_undoes_enciphering = { λ s code z k v x f h.
         let t = served B.BlockCipher.scheduled s.code code (length k) z f.told in
         let w = B.BlockCipher.expanded k in
-        let bytes = B.BlockCipher.expanding_gives_bytes k t.schedule t.taken f.key-bytes in
+        let bytes = B.BlockCipher.expanding_gives_bytes k t.schedule t.taken f.key_bytes in
         deciphering_undoes (B.BlockCipher.forward w) (B.BlockCipher.inverse w) v x
-        (record { long = f.length_of_vector ∙ t.vector; bytes = f.vector-bytes })
+        (record { long = f.length_of_vector ∙ t.vector; bytes = f.vector_bytes })
         (ap (λ u. length x % u) (sym t.unit) ∙ h.units) h.bytes (B.BlockCipher.forward_keeps_length w)
         (λ b. B.BlockCipher.forward_gives_bytes w b bytes) (λ b. B.BlockCipher.inverse_undoes_forward w b bytes) };
 
     ghost enciphering_undoes_deciphering = { λ s code z k v x f h.
         let t = served B.BlockCipher.scheduled s.code code (length k) z f.told in
         let w = B.BlockCipher.expanded k in
-        let bytes = B.BlockCipher.expanding_gives_bytes k t.schedule t.taken f.key-bytes in
+        let bytes = B.BlockCipher.expanding_gives_bytes k t.schedule t.taken f.key_bytes in
         enciphering_undoes (B.BlockCipher.forward w) (B.BlockCipher.inverse w) v x
-        (record { long = f.length_of_vector ∙ t.vector; bytes = f.vector-bytes })
+        (record { long = f.length_of_vector ∙ t.vector; bytes = f.vector_bytes })
         (ap (λ u. length x % u) (sym t.unit) ∙ h.units) h.bytes (B.BlockCipher.inverse_keeps_length w)
         (λ b. B.BlockCipher.inverse_gives_bytes w b bytes) (λ b. B.BlockCipher.forward_undoes_inverse w b bytes) };
 

@@ -32,7 +32,7 @@ impl<H: Hash> Integrity for HmacIntegrity<H> {
     ghost check_value_has_its_size = { λ s code z key message e.
         let t = served H.Hash.digest H.Hash.block H.Hash.size s.code s.sizes code z e in
         let v = SpecsHmac.hmac H.Hash.digest H.Hash.block key message in
-        let own : s.sizes.check ≡ z.check = ap (λ (y : IntegritySizes). y.check) t.same-sizes in
+        let own : s.sizes.check ≡ z.check = ap (λ (y : IntegritySizes). y.check) t.same_sizes in
         let long : length v ≡ H.Hash.size = length-hmac H.Hash.digest H.Hash.block H.Hash.size H.Hash.sized key message in (
           All-take (λ n. n < 256) s.sizes.check v (octets-hmac H.Hash.digest H.Hash.block H.Hash.bytes key message),
           length-take-le s.sizes.check v (omega (arith, t.digest)) ∙ own,

@@ -19,12 +19,12 @@ use Rattle.combined.specs.CcmSuite.{ccm_sizes, sizes_of, nonce, ccm_serves, ccm_
 pub record Terms (o : Option ℕ) (z : Sizes) : Type 0 where
   pub schedule : ℕ
   pub taken : o ≡ Some schedule
-  pub same-sizes : ccm_sizes ≡ z
+  pub same_sizes : ccm_sizes ≡ z
 
 told-terms : (b : Bool) (o : Option ℕ) (z : Sizes) → cond b (sizes_of o) None ≡ Some z → Terms o z
 told-terms false o z e = let n : ◌≡◌ {A = ℕ} 0 1 = cc in absurd (omega arith)
 told-terms true None z e = let n : ◌≡◌ {A = ℕ} 0 1 = cc in absurd (omega arith)
-told-terms true (Some n) z e = record { schedule = n; taken = refl; same-sizes = cc }
+told-terms true (Some n) z e = record { schedule = n; taken = refl; same_sizes = cc }
 
 pub terms : (scheduled : ℕ → Option ℕ) (encryption integrity : ℕ) (t : Triple) (z : Sizes)
     → ccm_serves scheduled encryption integrity t ≡ Some z → Terms (scheduled t.key) z
@@ -41,9 +41,9 @@ pub record Keyed (scheduled : ℕ → Option ℕ) (z : Sizes) (g : Given) : Type
 pub keyed : (scheduled : ℕ → Option ℕ) (t : Triple) (z : Sizes) (g : Given) → Terms (scheduled t.key) z → Lengths t z g → Keyed scheduled z g
 keyed scheduled t z g p l = record {
   taken = ap is_some (ap scheduled l.key ∙ p.taken);
-  salt = l.salt ∙ ap (λ (w : Sizes). w.salt) (sym p.same-sizes);
-  vector = l.vector ∙ ap (λ (w : Sizes). w.vector) (sym p.same-sizes);
-  check = ap (λ (w : Sizes). w.check) (sym p.same-sizes);
+  salt = l.salt ∙ ap (λ (w : Sizes). w.salt) (sym p.same_sizes);
+  vector = l.vector ∙ ap (λ (w : Sizes). w.vector) (sym p.same_sizes);
+  check = ap (λ (w : Sizes). w.check) (sym p.same_sizes);
 }
 
 length-nonce : (g : Given) → length g.salt ≡ 3 → length g.vector ≡ 8 → length (nonce g) ≡ 11
@@ -53,7 +53,7 @@ module _ (scheduled : ℕ → Option ℕ) (expanded : List ℕ → List ℕ) (fo
   pub sizes_are_bounded : ((n m : ℕ) → scheduled n ≡ Some m → n ≤ 32) → SizesAreBounded (ccm_suite scheduled expanded forward encryption integrity)
   sizes_are_bounded short t z e =
       let p = terms scheduled encryption integrity t z e in
-      subst (Bounded t) p.same-sizes
+      subst (Bounded t) p.same_sizes
       record {
         key = short t.key p.schedule p.taken;
         integrity = omega arith;
@@ -73,7 +73,7 @@ module _ (scheduled : ℕ → Option ℕ) (expanded : List ℕ → List ℕ) (fo
         let k = keyed scheduled t z g p (lengths t z g fit) in
         let eleven = length-nonce g k.salt k.vector in
         length-sealed (forward (expanded g.key)) (keeps (expanded g.key)) 16 (nonce g) g.head x (omega arith) (omega arith)
-        ∙ ap (λ (w : Sizes). length x + w.check) p.same-sizes
+        ∙ ap (λ (w : Sizes). length x + w.check) p.same_sizes
 
     module _ (t : Triple) (g : Given) (s : Served (ccm_suite scheduled expanded forward encryption integrity) t g) where
       own : Terms (scheduled t.key) s.sizes
@@ -112,7 +112,7 @@ module _ (scheduled : ℕ → Option ℕ) (expanded : List ℕ → List ℕ) (fo
         what_opens x y h opens =
             let e = forward (expanded g.key) in
             let long : length x ≡ length y - s.sizes.check =
-            length-opened e 16 (nonce g) g.head x y opens ∙ ap (λ (w : Sizes). length y - w.check) own.same-sizes in (
+            length-opened e 16 (nonce g) g.head x y opens ∙ ap (λ (w : Sizes). length y - w.check) own.same_sizes in (
               record {
                 bytes =
                     octets-opened e 16 (nonce g) g.head x y opens

@@ -8,7 +8,7 @@ use Rattle.layout.specs.declared.Frame.{Frame}
 use Rattle.layout.specs.declared.Parts.{Parts}
 use Rattle.layout.proofs.Refusals.{passed_from_ok}
 use Rattle.padding.specs.Padding.{Padded, padded, unpadded}
-use Rattle.padding.proofs.Laws.{undoes-only-padding, padded_one_way, length-padded}
+use Rattle.padding.proofs.Laws.{undoes_only_padding, padded_one_way, length-padded}
 use Rattle.suite.specs.Laws.{Text, OpeningUndoesSealing, SealingAddsTheCheckValue, WhatOpensWasSealed}
 use Rattle.suite.specs.Meaning.{Given, Meaning, counted}
 use Rattle.suite.specs.Meaning as suite
@@ -21,14 +21,14 @@ use Rattle.descriptor.specs.Opening.{answer, concluded, data_after, parts_openin
 use Rattle.descriptor.specs.Text.{data_of, TextOf}
 use Rattle.descriptor.specs.declared.fault.Fault.{Fault}
 use Rattle.descriptor.specs.declared.protection.Protection.{Protection}
-use Rattle.descriptor.proofs.OpeningSteps.{Bytes, given-text, served_with, octets-between, protected_length}
+use Rattle.descriptor.proofs.OpeningSteps.{Bytes, given-text, served_with, octets-between, length-protected}
 
 -- data and their text, by whether the suite encrypts
 abbrev DataOf : Bool → List ℕ → List ℕ → Type 0
 DataOf b xs text = cond b ((p : ℕ) × Padded xs p text) (text ≡ xs)
 
 text_of : (b : Bool) (xs text : List ℕ) → cond b (unpadded text) (Some text) ≡ Some xs → DataOf b xs text
-text_of true xs text e = undoes-only-padding xs text e
+text_of true xs text e = undoes_only_padding xs text e
 text_of false xs text e = cc
 
 one_data : (b : Bool) (xs ys text : List ℕ) → DataOf b xs text → DataOf b ys text → ys ≡ xs
@@ -158,6 +158,6 @@ module _ (m : Meaning) (p : Protection) (list buffer work : List ℕ) (z : Sizes
       })
       r
       (sealed_data m p.triple z g y buffer work told opens undoes adds all r (places.check - places.protected) after
-      (sym (protected_length f z.vector z.check places list there within))
+      (sym (length-protected f z.vector z.check places list there within))
       (r-is ∙ ap (λ w. answer (parts_opening m p list buffer work z f (Ok w))) is)
       (after_is ∙ ap (λ w. data_after (parts_opening m p list buffer work z f (Ok w)) buffer) is))

@@ -179,12 +179,12 @@ pub octets-between : (a b : ℕ) (list : List ℕ) → Octets list → Octets (b
 octets-between a b list h = let byte : ℕ → Type 0 = λ x. x < 256 in All-take byte (b - a) (drop a list) (All-drop byte a list h)
 
 -- the length of the protected part, by its places and by what stands there
-pub protected_length : (f : Frame) (s c : ℕ) (at : Parts) (list : List ℕ) → InARow f s c at → f.end ≤ length list
+pub length-protected : (f : Frame) (s c : ℕ) (at : Parts) (list : List ℕ) → InARow f s c at → f.end ≤ length list
     → length (between at.protected at.end list) - c ≡ at.check - at.protected
-protected_length f s c at list row within =
-    let v = row.vector-after_sqn in
-    let p = row.protected_after-vector in
-    let k = row.check-after_protected in
+length-protected f s c at list row within =
+    let v = row.vector_after_sqn in
+    let p = row.protected_after_vector in
+    let k = row.check_after_protected in
     let e = row.check_to_end in
     let l = row.end_of_frame in
     let long : length (between at.protected at.end list) ≡ at.end - at.protected =

@@ -86,7 +86,7 @@ module _ (m : Meaning) (p : Protection) (l : Label) (z : Sizes) (vector xs : Lis
       salt = bytes.salt;
       integrity = bytes.integrity;
       head = All-append (λ n. n < 256) (big_endian 4 l.sai) (big_endian 8 l.sqn) (octets-big_endian 4 l.sai) (octets-big_endian 8 l.sqn);
-      vector = bytes.vector-bytes;
+      vector = bytes.vector_bytes;
     };
   }
 

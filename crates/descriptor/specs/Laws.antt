@@ -20,7 +20,7 @@ pub record AllBytes (p : Protection) (vector xs : List ℕ) : Type 0 where
   pub key : Octets p.key.now
   pub salt : Octets p.salt.now
   pub integrity : Octets p.integrity.now
-  pub vector-bytes : Octets vector
+  pub vector_bytes : Octets vector
   pub data_bytes : Octets xs
 
 -- what the suite takes, and what it opens, for the descriptor of a frame

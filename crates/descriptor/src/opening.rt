@@ -2,7 +2,7 @@
 ghost use Rattle.std.specs.Prelude.{◌≡◌, ◌-◌, ◌≤◌, length, take, IfOk, Some, Ok};
 ghost use Rattle.octets.specs.Octets.{Octets};
 ghost use Rattle.layout.specs.Frame.{framed, InARow};
-ghost use Rattle.suite.specs.Meaning.{given, opening as suiteOpening};
+ghost use Rattle.suite.specs.Meaning.{given, opening as suite_opening};
 ghost use Rattle.descriptor.specs.Opening.{frame_opening, parts_opening, opening, concluded, answer, data_after, work_after, with_label, unpadding};
 ghost use Rattle.descriptor.specs.Laws.{SealingOf};
 ghost use Rattle.descriptor.specs.Text.{data_of};
@@ -133,9 +133,9 @@ fn open_text<S: Suite>(
     requires head_bytes { Octets inputs.head.now }
     requires vector_bytes { Octets inputs.vector.now }
     requires sealed_bytes { Octets sealed.now }
-    ensures data_length_answered { result ≡ answer (concluded sizes (length sealed.now - sizes.check) (suiteOpening (S.meaning suite.now) triple (given inputs.entry) sealed.now «data».old work.old)) }
-    ensures data_then_zeros_then_old { «data».new ≡ data_after (concluded sizes (length sealed.now - sizes.check) (suiteOpening (S.meaning suite.now) triple (given inputs.entry) sealed.now «data».old work.old)) «data».old }
-    ensures work_bytes_zero { work.new ≡ work_after (concluded sizes (length sealed.now - sizes.check) (suiteOpening (S.meaning suite.now) triple (given inputs.entry) sealed.now «data».old work.old)) work.old }
+    ensures data_length_answered { result ≡ answer (concluded sizes (length sealed.now - sizes.check) (suite_opening (S.meaning suite.now) triple (given inputs.entry) sealed.now «data».old work.old)) }
+    ensures data_then_zeros_then_old { «data».new ≡ data_after (concluded sizes (length sealed.now - sizes.check) (suite_opening (S.meaning suite.now) triple (given inputs.entry) sealed.now «data».old work.old)) «data».old }
+    ensures work_bytes_zero { work.new ≡ work_after (concluded sizes (length sealed.now - sizes.check) (suite_opening (S.meaning suite.now) triple (given inputs.entry) sealed.now «data».old work.old)) work.old }
 {
     let text = suite.open(triple, inputs, sealed, data, work)?;
     unpad(sizes, text, data)

@@ -83,8 +83,8 @@ abbrev pub parted : Frame → ℕ → ℕ → ℕ → Bool → Result Places Fau
 parted frame s c u encrypts = judged (first_fit (part_tests frame s c u encrypts)) (parts_at frame s c)
 
 pub record InARow (frame : Frame) (s c : ℕ) (places : Places) : Type 0 where
-  pub vector-after_sqn : places.vector ≡ frame.head + 12
-  pub protected_after-vector : places.protected ≡ places.vector + s
-  pub check-after_protected : places.protected ≤ places.check
+  pub vector_after_sqn : places.vector ≡ frame.head + 12
+  pub protected_after_vector : places.protected ≡ places.vector + s
+  pub check_after_protected : places.protected ≤ places.check
   pub check_to_end : places.check + c ≡ places.end
   pub end_of_frame : places.end ≡ frame.end

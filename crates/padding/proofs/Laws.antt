@@ -36,11 +36,11 @@ unpadded-padded p xs h =
     by_trailer (padded p xs) true (well_padded-padded p xs h)
     ∙ ap Some (ap (λ n. take n (padded p xs)) (data_end-padded p xs) ∙ take_at xs (trailer p) (length xs) refl)
 
-pub undoes-padding : (xs text : List ℕ) (p : ℕ) → Padded xs p text → unpadded text ≡ Some xs
-undoes-padding xs text p h = ap unpadded h.is ∙ unpadded-padded p xs h.allowed
+pub undoes_padding : (xs text : List ℕ) (p : ℕ) → Padded xs p text → unpadded text ≡ Some xs
+undoes_padding xs text p h = ap unpadded h.is ∙ unpadded-padded p xs h.allowed
 
-pub undoes-only-padding : (xs text : List ℕ) → unpadded text ≡ Some xs → (p : ℕ) × Padded xs p text
-undoes-only-padding xs text h =
+pub undoes_only_padding : (xs text : List ℕ) → unpadded text ≡ Some xs → (p : ℕ) × Padded xs p text
+undoes_only_padding xs text h =
     ⊎_elim
     (λ right.
     let front : take (data_end text) text ≡ xs = let e = by_trailer text true right in cc in
@@ -61,7 +61,7 @@ padded_one_way xs ys text p q h k =
     (append_cancel_right xs ys (trailer q) (ap (λ n. xs ++ trailer n) (sym number) ∙ sym h.is ∙ k.is), number)
 
 pub lawful : Lawful
-lawful = record { undoes-padding = undoes-padding; undoes-only-padding = undoes-only-padding; padded_one_way = padded_one_way }
+lawful = record { undoes_padding = undoes_padding; undoes_only_padding = undoes_only_padding; padded_one_way = padded_one_way }
 
 -- what a caller has to know to go on: where the data end, and that all stays bytes
 
@@ -80,6 +80,6 @@ octets-padded p xs h k = All-append (λ x. x < 256) xs (trailer p) k (octets-tra
 
 pub octets-unpadded : (xs text : List ℕ) → unpadded text ≡ Some xs → Octets text → Octets xs
 octets-unpadded xs text e h =
-    let was = (undoes-only-padding xs text e).1.is in
+    let was = (undoes_only_padding xs text e).1.is in
     let front : take (length xs) text ≡ xs = ap (take (length xs)) was ∙ take_at xs _ (length xs) refl in
     rw front at (All-take (λ x. x < 256) (length xs) text h)

@@ -76,8 +76,8 @@ unpadded text = cut (data_length text) text
 
 pub record Lawful : Type 0 where
   -- unpadding undoes padding
-  pub undoes-padding : (xs text : List ℕ) (p : ℕ) → Padded xs p text → unpadded text ≡ Some xs
+  pub undoes_padding : (xs text : List ℕ) (p : ℕ) → Padded xs p text → unpadded text ≡ Some xs
   -- and nothing else
-  pub undoes-only-padding : (xs text : List ℕ) → unpadded text ≡ Some xs → (p : ℕ) × Padded xs p text
+  pub undoes_only_padding : (xs text : List ℕ) → unpadded text ≡ Some xs → (p : ℕ) × Padded xs p text
   -- no text is the padding of two data, or of the same data with two lengths
   pub padded_one_way : (xs ys text : List ℕ) (p q : ℕ) → Padded xs p text → Padded ys q text → (xs ≡ ys) × (p ≡ q)

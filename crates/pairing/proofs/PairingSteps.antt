@@ -21,7 +21,7 @@ pub ciphers_through : (c : CipherMeaning) (i : IntegrityMeaning) (t : Triple) (z
     → ciphering turned c t.encryption g.key g.vector text work ≡ Ok (turned g.key g.vector text)
 ciphers_through c i t z g told l turned text work units room =
     let s = sides c i t z g told l in
-    ciphering-served turned c t.encryption s.cipher g.key g.vector text work s.cipher-told s.vector
+    ciphering-served turned c t.encryption s.cipher g.key g.vector text work s.cipher_told s.vector
     (whole-units c i t z g s (length text) units) room
 
 -- the first bytes of a buffer over which v was written are v

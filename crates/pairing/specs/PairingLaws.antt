@@ -21,8 +21,8 @@ use Rattle.pairing.specs.Pairing.{both, paired, pairing, pair_serves, check_valu
 record Parts (a : Option CipherSizes) (b : Option IntegritySizes) (z : Sizes) : Type 0 where
   cipher : CipherSizes
   integrity : IntegritySizes
-  cipher-told : a ≡ Some cipher
-  integrity-told : b ≡ Some integrity
+  cipher_told : a ≡ Some cipher
+  integrity_told : b ≡ Some integrity
   together : both cipher integrity ≡ z
 
 parts : (a : Option CipherSizes) (b : Option IntegritySizes) (z : Sizes) → paired a b ≡ Some z → Parts a b z
@@ -30,7 +30,7 @@ parts None None z e = let n : ◌≡◌ {A = ℕ} 0 1 = cc in absurd (omega arit
 parts None (Some i) z e = let n : ◌≡◌ {A = ℕ} 0 1 = cc in absurd (omega arith)
 parts (Some c) None z e = let n : ◌≡◌ {A = ℕ} 0 1 = cc in absurd (omega arith)
 parts (Some c) (Some i) z e =
-    record { cipher = c; integrity = i; cipher-told = refl; integrity-told = refl; together = cc }
+    record { cipher = c; integrity = i; cipher_told = refl; integrity_told = refl; together = cc }
 
 module _ (c : CipherMeaning) (i : IntegrityMeaning) where
   -- what the cipher and the integrity algorithm tell where the pair is served
@@ -38,8 +38,8 @@ module _ (c : CipherMeaning) (i : IntegrityMeaning) where
     pub cipher : CipherSizes
     pub integrity : IntegritySizes
     pub together : both cipher integrity ≡ z
-    pub cipher-told : c.serves t.encryption (length g.key) ≡ Some cipher
-    pub integrity-told : i.serves t.integrity ≡ Some integrity
+    pub cipher_told : c.serves t.encryption (length g.key) ≡ Some cipher
+    pub integrity_told : i.serves t.integrity ≡ Some integrity
     pub vector : length g.vector ≡ cipher.vector
 
   pub sides : (t : Triple) (z : Sizes) (g : Given) → pair_serves c i t ≡ Some z → Lengths t z g → Sides t z g
@@ -49,8 +49,8 @@ module _ (c : CipherMeaning) (i : IntegrityMeaning) where
         cipher = p.cipher;
         integrity = p.integrity;
         together = p.together;
-        cipher-told = ap (λ n. c.serves t.encryption n) l.key ∙ p.cipher-told;
-        integrity-told = p.integrity-told;
+        cipher_told = ap (λ n. c.serves t.encryption n) l.key ∙ p.cipher_told;
+        integrity_told = p.integrity_told;
         vector = l.vector ∙ ap (λ (w : Sizes). w.vector) (sym p.together);
       }
 
@@ -59,7 +59,7 @@ module _ (c : CipherMeaning) (i : IntegrityMeaning) where
 
   pub check-length : CheckValueHasItsSize i → (t : Triple) (z : Sizes) (g : Given) → Sides t z g → (e : List ℕ) → length (check_value c i t g e) ≡ z.check
   check-length size t z g s e =
-      (size t.integrity s.integrity g.integrity _ s.integrity-told).1 ∙ ap (λ (w : Sizes). w.check) s.together
+      (size t.integrity s.integrity g.integrity _ s.integrity_told).1 ∙ ap (λ (w : Sizes). w.check) s.together
 
   module _ (cipher-bounds : CipherSizesAreBounded c) (integrity-bounds : IntegritySizesAreBounded i) where
     bounded : (t : Triple) (a : CipherSizes) (b : IntegritySizes) → BoundedCipher t.key a → BoundedIntegrity b → Bounded t (both a b)
@@ -80,15 +80,15 @@ module _ (c : CipherMeaning) (i : IntegrityMeaning) where
         let p = parts (c.serves t.encryption t.key) (i.serves t.integrity) z e in
         subst (Bounded t) p.together
         (bounded t p.cipher p.integrity
-        (cipher-bounds t.encryption t.key p.cipher p.cipher-told)
-        (integrity-bounds t.integrity p.integrity p.integrity-told))
+        (cipher-bounds t.encryption t.key p.cipher p.cipher_told)
+        (integrity-bounds t.integrity p.integrity p.integrity_told))
 
   pub sealing_adds_the_check_value : KeepsLength c c.enciphered → CheckValueHasItsSize i → SealingAddsTheCheckValue (pairing c i)
   sealing_adds_the_check_value keeps size t z g x told fit text =
       let s = sides t z g told (lengths t z g fit) in
       let e = c.enciphered g.key g.vector x in
       let long : length e ≡ length x =
-      keeps t.encryption s.cipher g.key g.vector x s.cipher-told s.vector
+      keeps t.encryption s.cipher g.key g.vector x s.cipher_told s.vector
       (whole-units t z g s (length x) (units z (length x) text)) in
       omega (arith, length-append e (check_value c i t g e), check-length size t z g s e)
 
@@ -98,10 +98,10 @@ module _ (c : CipherMeaning) (i : IntegrityMeaning) where
 
     fitting : FittingCipher c t.encryption side.cipher g.key g.vector
     fitting = record {
-      told = side.cipher-told;
+      told = side.cipher_told;
       length_of_vector = side.vector;
-      key-bytes = s.fitting.key;
-      vector-bytes = s.fitting.vector;
+      key_bytes = s.fitting.key;
+      vector_bytes = s.fitting.vector;
     }
 
     whole : (x : List ℕ) → Octets x → text_fits s.sizes (length x) ≡ true → Whole side.cipher x
@@ -117,7 +117,7 @@ module _ (c : CipherMeaning) (i : IntegrityMeaning) where
     gives-bytes enciphering-gives check-size x text =
         All-append (λ n. n < 256) _ _
         (enciphering-gives t.encryption side.cipher g.key g.vector x (fitting) (whole x text.bytes text.fits))
-        (check-size t.integrity side.integrity g.integrity _ side.integrity-told).0
+        (check-size t.integrity side.integrity g.integrity _ side.integrity_told).0
 
     pair_opened-opened_at : (n : ℕ) (y : List ℕ) → length y - check_size (pair_serves c i t) ≡ n → pair_opened c i t g y ≡ opened_at c i n t g y
     pair_opened-opened_at n y e = ap (λ m. opened_at c i m t g y) e
@@ -165,7 +165,7 @@ module _ (c : CipherMeaning) (i : IntegrityMeaning) where
         let whole-e = whole (take n y) bytes (ap (text_fits s.sizes) long ∙ h.fits) in
         let apart = taken_apart enciphering_undoes n x y (same (drop n y) (check_value c i t g (take n y))) whole-e refl (sym (pair_opened-opened_at n y n-is) ∙ o) in
         let kept : length (c.deciphered g.key g.vector (take n y)) ≡ length (take n y) =
-        deciphering-keeps t.encryption side.cipher g.key g.vector (take n y) side.cipher-told side.vector whole-e.units in
+        deciphering-keeps t.encryption side.cipher g.key g.vector (take n y) side.cipher_told side.vector whole-e.units in
         let as_long : length x ≡ n = ap length (sym apart.0) ∙ (kept ∙ long) in (
           record {
             bytes = subst Octets apart.0 (deciphering-gives t.encryption side.cipher g.key g.vector (take n y) fitting whole-e);

@@ -37,8 +37,8 @@ text_after (Err f) text = text
 pub record FittingCipher (m : CipherMeaning) (code : ℕ) (z : CipherSizes) (key vector : List ℕ) : Type 0 where
   pub told : m.serves code (length key) ≡ Some z
   pub length_of_vector : length vector ≡ z.vector
-  pub key-bytes : Octets key
-  pub vector-bytes : Octets vector
+  pub key_bytes : Octets key
+  pub vector_bytes : Octets vector
 
 pub record Whole (z : CipherSizes) (x : List ℕ) : Type 0 where
   pub bytes : Octets x

@@ -3,7 +3,7 @@ use Rattle.std.specs.List.{between}
 use Rattle.suite.specs.Meaning.{opening}
 use Rattle.descriptor.specs.Opening.{answer, concluded, data_after, work_after}
 use Rattle.descriptor.specs.Text.{given_to}
-use Rattle.descriptor.proofs.OpeningSteps.{octets-between, protected_length}
+use Rattle.descriptor.proofs.OpeningSteps.{octets-between, length-protected}
 use Rattle.descriptor.proofs.opening.open_parts.Goals as goal
 
 pub open_text-requires : goal.open_text-requires
@@ -29,7 +29,7 @@ returns g c =
     opening (g.S.Suite.meaning c.args.suite.now) c.args.under.triple
     (given_to c.args.under (between c.args.frame.head at.vector list) (between at.vector at.protected list))
     (between at.protected at.end list) c.args.data.now c.args.work.now in
-    let long = protected_length c.args.frame z.vector z.check at list c.requires.in_a_row c.requires.in_the_list in
+    let long = length-protected c.args.frame z.vector z.check at list c.requires.in_a_row c.requires.in_the_list in
     record {
       data_length_answered = c.open_text.ensures.data_length_answered ∙ ap (λ e. answer (concluded z e o)) long;
       data_then_zeros_then_old =

@@ -96,7 +96,7 @@ returns g c =
     ∙ (ap (λ r. text_after r (take (n - 0) c.copy_over.new.out)) through ∙ ap (cipher.deciphered given.key given.vector) front) in
     let x-long : length x ≡ n =
     g.met.C.Cipher.deciphering_keeps_length c.args.self.now.cipher t.encryption side.cipher given.key given.vector (take n y)
-    side.cipher-told side.vector (whole-units cipher integrity t z given side (length (take n y)) (ap (λ m. m % z.unit) n-long ∙ f.units))
+    side.cipher_told side.vector (whole-units cipher integrity t z given side (length (take n y)) (ap (λ m. m % z.unit) n-long ∙ f.units))
     ∙ n-long in
     record {
       text_counted = ap Ok (sym x-long) ∙ ap (λ o. counted (ok_or o Mismatch)) (sym some);
