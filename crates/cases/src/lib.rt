@@ -1,4 +1,4 @@
-// Examples of every refusal of padding and descriptor, and of their edges.
+// Examples of every refusal, and of the edges of what is built.
 #![tactic(auto)]
 
 #[cfg(test)]
@@ -7,5 +7,7 @@ mod made;
 mod opened;
 #[cfg(test)]
 mod padded;
+#[cfg(test)]
+mod sealed;
 #[cfg(test)]
 mod under;

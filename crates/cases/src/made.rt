@@ -1,13 +1,12 @@
 // Making a descriptor.
-use crate::under::{
-    EMPTY, LONG, OLD, SERVED, UNSERVED, USED, first, first_mut, null_suite, old, used, wiped,
-};
+use crate::under::{EMPTY, LONG, OLD, SERVED, UNSERVED, USED, first, first_mut, old, used, wiped};
 use descriptor::{Fault, Label, Protection, make};
 use layout::Form;
 use octets::copy_over;
 use std::process::Abort;
 use std::test::Fail;
 use suite::{Suite, Triple};
+use suites::null_hmac_sha2_256_128;
 
 const SEVENS: [u8; 64] = [7; 64];
 
@@ -55,7 +54,7 @@ fn protection(call: Call) -> Protection<'static> {
 }
 
 // Making is refused, and changes no byte.
-fn refused_by<S: Suite>(rt: &impl Abort, suite: &S, call: Call, data: &[u8], fault: Fault) {
+fn refused<S: Suite>(rt: &impl Abort, suite: &S, call: Call, data: &[u8], fault: Fault) {
     let mut out = old();
     let mut work = used();
     let answer = make(
@@ -72,50 +71,59 @@ fn refused_by<S: Suite>(rt: &impl Abort, suite: &S, call: Call, data: &[u8], fau
     assert!(rt; work == used());
 }
 
-// The same under ENCR_NULL with AUTH_HMAC_SHA2_256_128.
-fn refused(rt: &impl Abort, call: Call, data: &[u8], fault: Fault) {
-    refused_by(rt, &null_suite(), call, data, fault);
-}
-
 // In the order of the tests: the first that fits is the answer.
 #[test]
-fn refused_by_the_suite(rt: HostRuntime) {
+fn refused_calls(rt: HostRuntime) {
     let size = Fault::Suite(suite::Fault::Size);
     let unserved = Call {
         triple: UNSERVED[0],
         work: 239,
         ..FITTING
     };
-    let short_key = Call {
-        integrity: 31,
-        vector: 1,
-        ..FITTING
-    };
-    let short_work = Call {
-        work: 239,
-        vector: 1,
-        ..FITTING
-    };
-    refused(&rt, unserved, &DATA, Fault::Suite(suite::Fault::NotServed));
-    refused(&rt, short_key, &DATA, size);
-    refused(&rt, short_work, &DATA, size);
-}
-
-#[test]
-fn refused_by_the_descriptor(rt: HostRuntime) {
-    let long_vector = Call {
-        vector: 1,
-        out: 0,
-        ..FITTING
-    };
-    let short_form = Call {
-        form: Form::Short,
-        out: 32,
-        ..FITTING
-    };
-    refused(&rt, long_vector, &DATA, Fault::Vector);
-    refused(&rt, Call { out: 36, ..FITTING }, &DATA, Fault::Output);
-    refused(&rt, short_form, &DATA, Fault::Output);
+    refused(
+        &rt,
+        &null_hmac_sha2_256_128(),
+        unserved,
+        &DATA,
+        Fault::Suite(suite::Fault::NotServed),
+    );
+    for (call, fault) in [
+        (
+            Call {
+                integrity: 31,
+                ..FITTING
+            },
+            size,
+        ),
+        (
+            Call {
+                work: 239,
+                vector: 1,
+                out: 0,
+                ..FITTING
+            },
+            size,
+        ),
+        (
+            Call {
+                vector: 1,
+                out: 0,
+                ..FITTING
+            },
+            Fault::Vector,
+        ),
+        (Call { out: 36, ..FITTING }, Fault::Output),
+        (
+            Call {
+                form: Form::Short,
+                out: 32,
+                ..FITTING
+            },
+            Fault::Output,
+        ),
+    ] {
+        refused(&rt, &null_hmac_sha2_256_128(), call, &DATA, fault);
+    }
 }
 
 // The data are made into `descriptor`, with old bytes behind it.
@@ -131,20 +139,23 @@ fn makes<S: Suite>(rt: &impl Abort, suite: &S, form: Form, data: &[u8], descript
     assert!(rt; work == wiped());
 }
 
-fn makes_each<S: Suite>(rt: &impl Abort, suite: &S) {
-    makes(rt, suite, Form::Long, &DATA, &LONG);
-    makes(rt, suite, Form::Short, &DATA, &LONG[4..37]);
-    makes(rt, suite, Form::Short, &[], &EMPTY);
-}
-
 #[test]
 fn made_bytes(rt: HostRuntime) {
-    makes_each(&rt, &null_suite());
+    let suite = null_hmac_sha2_256_128();
+    makes(&rt, &suite, Form::Long, &DATA, &LONG);
+    makes(&rt, &suite, Form::Short, &DATA, &LONG[4..37]);
+    makes(&rt, &suite, Form::Short, &[], &EMPTY);
 }
 
 #[test]
 fn too_long(rt: HostRuntime) -> Result<(), Fail> {
     let data = vec![in rt.alloc(); 0; 65_504]?;
-    refused(&rt, FITTING, &data, Fault::TooLong);
+    refused(
+        &rt,
+        &null_hmac_sha2_256_128(),
+        FITTING,
+        &data,
+        Fault::TooLong,
+    );
     Ok(())
 }

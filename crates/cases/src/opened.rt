@@ -1,10 +1,11 @@
 // Opening a descriptor.
-use crate::under::{EMPTY, LONG, OLD, SERVED, UNSERVED, null_suite, old, used, wiped};
+use crate::under::{EMPTY, LONG, OLD, SERVED, UNSERVED, old, used, wiped};
 use descriptor::{Fault, Opened, Protection, open};
 use layout::Span;
 use octets::copy_at;
 use std::process::Abort;
 use suite::Suite;
+use suites::null_hmac_sha2_256_128;
 
 const KEY: [u8; 32] = [7; 32];
 
@@ -27,7 +28,7 @@ fn found(length: usize) -> Result<Opened, Fault> {
 }
 
 // Opening gives this answer, after which the buffer is `data` and the work area `area`.
-fn opens_by<S: Suite>(
+fn opens<S: Suite>(
     rt: &impl Abort,
     suite: &S,
     under: Protection<'_>,
@@ -48,34 +49,11 @@ fn opens_by<S: Suite>(
     assert!(rt; work == area);
 }
 
-// The same under ENCR_NULL with AUTH_HMAC_SHA2_256_128.
-fn opens(
-    rt: &impl Abort,
-    under: Protection<'_>,
-    list: &[u8],
-    place: usize,
-    span: Span,
-    answer: Result<Opened, Fault>,
-    data: [u8; 8],
-    area: [u8; 241],
-) {
-    opens_by(
-        rt,
-        &null_suite(),
-        under,
-        list,
-        place,
-        span,
-        answer,
-        data,
-        area,
-    );
-}
-
 // Opening is refused, and changes no byte.
 fn refused(rt: &impl Abort, list: &[u8], place: usize, span: Span, fault: layout::Fault) {
     opens(
         rt,
+        &null_hmac_sha2_256_128(),
         UNDER,
         list,
         place,
@@ -101,10 +79,21 @@ fn opened_data(rt: HostRuntime) {
         (&reserved, 0, Span::Long),
     ];
     for (list, place, span) in cases {
-        opens(&rt, UNDER, list, place, span, found(5), FIVE, wiped());
+        opens(
+            &rt,
+            &null_hmac_sha2_256_128(),
+            UNDER,
+            list,
+            place,
+            span,
+            found(5),
+            FIVE,
+            wiped(),
+        );
     }
     opens(
         &rt,
+        &null_hmac_sha2_256_128(),
         UNDER,
         &EMPTY,
         0,
@@ -142,7 +131,17 @@ fn no_turned_bit_opens(rt: HostRuntime) {
         let mut list = LONG;
         list[i] ^= 0x10;
         let data = [0, 0, 0, 0, 0, OLD, OLD, OLD];
-        opens(&rt, UNDER, &list, 0, Span::Long, answer, data, wiped());
+        opens(
+            &rt,
+            &null_hmac_sha2_256_128(),
+            UNDER,
+            &list,
+            0,
+            Span::Long,
+            answer,
+            data,
+            wiped(),
+        );
     }
 }
 
@@ -162,6 +161,16 @@ fn refused_by_the_suite(rt: HostRuntime) {
         (short_key, suite::Fault::Size),
     ] {
         let answer = Err(Fault::Suite(fault));
-        opens(&rt, under, &LONG, 0, Span::Long, answer, [OLD; 8], used());
+        opens(
+            &rt,
+            &null_hmac_sha2_256_128(),
+            under,
+            &LONG,
+            0,
+            Span::Long,
+            answer,
+            [OLD; 8],
+            used(),
+        );
     }
 }

@@ -1,8 +1,6 @@
 // What the examples are protected under.
-use sha::Sha256;
-use std::marker::PhantomData;
-use suite::{IntegritySizes, Triple};
-use suites::{AUTH_HMAC_SHA2_256_128, ENCR_NULL, HmacIntegrity, Null, Pairing};
+use suite::Triple;
+use suites::{AUTH_HMAC_SHA2_256_128, ENCR_NULL};
 
 pub(crate) const SERVED: Triple = Triple {
     encryption: ENCR_NULL,
@@ -10,25 +8,13 @@ pub(crate) const SERVED: Triple = Triple {
     key: 0,
 };
 
-// A suite of that one triple: a small type keeps the proofs of the examples short.
-pub(crate) fn null_suite() -> Pairing<Null, HmacIntegrity<Sha256>> {
-    Pairing {
-        cipher: Null,
-        integrity: HmacIntegrity {
-            code: AUTH_HMAC_SHA2_256_128,
-            sizes: IntegritySizes { key: 32, check: 16 },
-            hash: PhantomData,
-        },
-    }
-}
-
 pub(crate) const UNSERVED: [Triple; 3] = [
     Triple {
         encryption: 0x8001_000c,
         ..SERVED
     },
     Triple {
-        integrity: 0x8003_000e,
+        integrity: 0x8003_0002,
         ..SERVED
     },
     Triple { key: 1, ..SERVED },

@@ -1,26 +1,22 @@
-// The workbench: under each suite of the standard bank, makes data into a descriptor, opens it, damages it, and tells each
-// step in words beside its bytes.
+// The workbench: makes five bytes into a descriptor, opens it, damages it, and tells each step in words beside its bytes.
 #![tactic(auto)]
 
 mod fields;
 mod hex;
 mod job;
-mod lessons;
 mod words;
 
-use job::tell_lesson;
-use lessons::LESSONS;
-use suites::standard_bank;
+use job::tell_form;
+use layout::Form;
 
+// The job in both forms.
 fn tell_job(rt: &HostRuntime) -> anyhow::Result<()> {
-    rt.println("ESP-SCSI descriptors under each suite of the standard bank.")?;
+    rt.println("One ESP-SCSI descriptor under ENCR_NULL with AUTH_HMAC_SHA2_256_128.")?;
     rt.println(
         "Buffers are filled with EE first, so that every byte that a call leaves alone shows.",
     )?;
-    let bank = standard_bank();
-    for lesson in LESSONS {
-        tell_lesson(rt, &bank, lesson)?;
-    }
+    tell_form(rt, "Long form", Form::Long)?;
+    tell_form(rt, "Short form", Form::Short)?;
     Ok(())
 }
 

@@ -11,10 +11,12 @@
 --   round k w v          the working variables v after one round, with its constant k and its word w of the schedule
 --   round_at w t v        the working variables v after the round t, with the schedule w
 --   rounds w v           the working variables v after all 64 rounds, with the schedule w
+--   added v u            the words of v plus those of u, place by place
 --   compressed v block   the hash value after v, once the block is taken in
-use Rattle.std.specs.Prelude.{ℕ, ◌-◌, cond, List, [], ◌∷◌, bit_xor, nat_lt, slice_index, slice_index_or, slice_set}
+use Rattle.std.specs.Prelude.{ℕ, ◌-◌, cond, List, [], ◌∷◌, map, bit_xor, nat_lt, slice_index, slice_index_or, slice_set}
+use Rattle.std.specs.List.{range_with_len}
 use Rattle.chaining.specs.Turns.{built, turns}
-use Rattle.chaining.specs.Words.{◌⊞◌, ROTR, SHR, Ch, Maj, block_word, added}
+use Rattle.chaining.specs.Words.{◌⊞◌, ROTR, SHR, Ch, Maj, block_word}
 
 abbrev pub Σ₀ : ℕ → ℕ
 Σ₀ x = bit_xor (bit_xor (ROTR 2 x) (ROTR 13 x)) (ROTR 22 x)
@@ -50,7 +52,9 @@ abbrev pub extended : ℕ → List ℕ → List ℕ
 extended t w = slice_set w t (expanded w t)
 
 abbrev pub scheduled : List ℕ → List ℕ → ℕ → ℕ
-scheduled block w t = cond (nat_lt t 16) (block_word block t) (expanded w t)
+scheduled block w t =
+    cond (nat_lt t 16) (block_word block t)
+    (σ₁ (slice_index w (t - 2)) ⊞ slice_index_or w (t - 7) 0 ⊞ σ₀ (slice_index w (t - 15)) ⊞ slice_index_or w (t - 16) 0)
 
 abbrev pub W : List ℕ → List ℕ
 W block = built (scheduled block) 64
@@ -81,5 +85,8 @@ round_at w t v = round (slice_index K t) (slice_index w t) v
 abbrev pub rounds : List ℕ → List ℕ → List ℕ
 rounds w v = turns (round_at w) 64 v
 
+abbrev pub added : List ℕ → List ℕ → List ℕ
+added v u = map (λ i. slice_index_or v i 0 ⊞ slice_index_or u i 0) (range_with_len 0 8)
+
 unfoldable pub compressed : List ℕ → List ℕ → List ℕ
-compressed v block = added 8 v (rounds (W block) v)
+compressed v block = added v (rounds (W block) v)

@@ -2,8 +2,7 @@
 ghost use Rattle.std.specs.Prelude.{◌≡◌, ◌+◌, ◌<◌, ◌≤◌, take, slice_index};
 ghost use Rattle.std.proofs.Math.Path.{refl};
 ghost use Rattle.chaining.specs.Turns.{built, turns};
-ghost use Rattle.sha.specs.Sha256.{Σ₀, Σ₁, σ₀, σ₁, K, initial, expanded, extended, scheduled, W, round, round_at, rounds, compressed};
-ghost use Rattle.chaining.specs.Words.{added};
+ghost use Rattle.sha.specs.Sha256.{Σ₀, Σ₁, σ₀, σ₁, K, initial, expanded, extended, scheduled, W, round, round_at, rounds, added, compressed};
 ghost use Rattle.std.proofs.Common.{rules};
 
 use chaining::{Chain, Rounds, block_word, choice, majority};
@@ -212,7 +211,7 @@ fn rounds(v: &mut [u32; 8], w: &[u32; 64])
 
 // Adds the working variables to the state, word by word.
 fn add(state: &mut [u32; 8], v: &[u32; 8])
-    ensures eight_sums { state.new ≡ added 8 state.old v.now }
+    ensures eight_sums { state.new ≡ added state.old v.now }
 {
     *state = [
         state[0].wrapping_add(v[0]),

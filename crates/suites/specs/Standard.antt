@@ -1,21 +1,31 @@
 -- The standard bank: what it serves, row by row.
 --   hmac_sizes key check   the sizes of an integrity algorithm
+--   null_hmac_sha2_256_128 what ENCR_NULL with AUTH_HMAC_SHA2_256_128 means as a suite of its own
 --   Offer                 a triple that is served, and the sizes told of it
 --   standard_offers        every offer of the bank
 --   served_by offers t     the sizes told by the first offer that is of the triple t
 --   standard_serves t      the sizes that the standard bank tells of t
 --   agrees, all_agree      whether an offer, and whether every one, has the sizes of the code tables
 use Rattle.std.specs.Prelude.{ℕ, ◌+◌, Bool, true, false, cond, ◌&&◌, List, [], ◌∷◌, Some, None, Option, ◌==◌}
+use Rattle.algorithms.specs.HmacIntegrity.{hmac_integrity}
+use Rattle.algorithms.specs.Null.{null_cipher}
 use Rattle.codes.specs.Encryption.{encr_null, aes_cbc, aes_ccm, encryption_row}
 use Rattle.codes.specs.Integrity.{auth_hmac_sha1_96, auth_hmac_sha2_256_128, auth_combined, integrity_row}
 use Rattle.codes.specs.declared.EncryptionRow.{EncryptionRow}
 use Rattle.codes.specs.declared.IntegrityRow.{IntegrityRow}
+use Rattle.pairing.specs.Pairing.{pairing}
+use Rattle.sha.specs.Digests.{sha256}
+use Rattle.suite.specs.Meaning.{Meaning}
 use Rattle.suite.specs.declared.IntegritySizes.{IntegritySizes}
 use Rattle.suite.specs.declared.Sizes.{Sizes}
 use Rattle.suite.specs.declared.Triple.{Triple}
 
 abbrev pub hmac_sizes : ℕ → ℕ → IntegritySizes
 hmac_sizes k c = record { key = k; check = c }
+
+-- SHA-256 has blocks of 64 bytes and digests of 32
+abbrev pub null_hmac_sha2_256_128 : Meaning
+null_hmac_sha2_256_128 = pairing null_cipher (hmac_integrity sha256 64 32 auth_hmac_sha2_256_128 (hmac_sizes 32 16))
 
 pub record Offer : Type 0 where
   pub encryption : ℕ

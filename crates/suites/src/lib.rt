@@ -11,4 +11,6 @@ pub use codes::{
 };
 pub use combined::Ccm;
 pub use pairing::Pairing;
-pub use standard::{StandardBank, standard_bank, standard_sizes};
+pub use standard::{
+    NullHmacSha256, StandardBank, null_hmac_sha2_256_128, standard_bank, standard_sizes,
+};

@@ -50,6 +50,20 @@ fn hmac_sha2_256_128() -> HmacIntegrity<Sha256>
     }
 }
 
+// ENCR_NULL with AUTH_HMAC_SHA2_256_128.
+pub type NullHmacSha256 = Pairing<Null, HmacIntegrity<Sha256>>;
+
+// ENCR_NULL with AUTH_HMAC_SHA2_256_128: no encryption, an integrity key of 32 bytes, a check value of 16.
+pub fn null_hmac_sha2_256_128() -> NullHmacSha256
+    ensures its_code { result.integrity.code ≡ auth_hmac_sha2_256_128 }
+    ensures its_sizes { result.integrity.sizes ≡ hmac_sizes 32 16 }
+{
+    Pairing {
+        cipher: Null,
+        integrity: hmac_sha2_256_128(),
+    }
+}
+
 // AES-CBC.
 fn aes_cbc() -> Cbc<Aes>
     ensures its_code { result.code ≡ aes_cbc }

@@ -18,17 +18,16 @@ impl Tally {
         }
     }
 
-    // Tells whether what was `found` is what is `published`, and counts it. `way` says which way a vector was run.
+    // Tells whether what was `found` is what is `published`, and counts it.
     pub(crate) fn compare(
         &mut self,
-        rt: &impl Print,
+        rt: &HostRuntime,
         name: &str,
-        way: &str,
         found: &[u8],
         published: &[u8],
     ) -> io::Result<()> {
         let verdict = self.count(same_octets(found, published));
-        println!(rt; "{name}{way}: {verdict}")
+        println!(rt; "{name}: {verdict}")
     }
 
     fn count(&mut self, same: bool) -> &'static str {
