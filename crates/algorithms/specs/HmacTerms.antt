@@ -1,9 +1,8 @@
 -- What HMAC as an integrity algorithm serves has possible sizes. Assumes nothing.
-use Rattle.std.specs.Prelude.{◌≡◌, ℕ, ◌+◌, ◌-◌, ◌≤◌, min, Bool, true, false, cond, ◌&&◌, List, ◌++◌, length, take, drop, Some, None, ◌==◌, nat_le, refl}
+use Rattle.std.specs.Prelude.{◌≡◌, ℕ, ◌≤◌, min, Bool, true, false, cond, ◌&&◌, List, ◌++◌, length, take, drop, Some, None, ◌==◌, nat_le, refl}
 use Rattle.std.proofs.Common.{sym, ap, ◌∙◌, arith, rules}
-use Rattle.std.proofs.Math.Nat.{sub-zero}
 use Rattle.std.proofs.lemmas.List.{places, same_lists}
-use Rattle.std.proofs.lemmas.Bool.{and_parts, leb-true, eqb-true}
+use Rattle.std.proofs.lemmas.Bool.{and_parts, leb-true}
 use Rattle.octets.specs.Octets.{over}
 use Rattle.suite.specs.declared.IntegritySizes.{IntegritySizes}
 use Rattle.algorithms.specs.HmacIntegrity.{possible, hmac_serves}

@@ -1,6 +1,6 @@
 -- A bank keeps the laws of a suite, since for each triple it is the one of its two suites that answers. Assumes nothing.
 use Rattle.std.specs.Prelude.{◌≡◌, Some, None, Option, refl}
-use Rattle.std.proofs.Common.{sym, ◌∙◌}
+use Rattle.std.proofs.Common.{◌∙◌}
 use Rattle.std.specs.Option.{option_or}
 use Rattle.suite.specs.Laws.{Served, SizesAreBounded, SealingAddsTheCheckValue, SealingGivesBytes, OpeningUndoesSealing, WhatOpensWasSealed, MismatchWhenNoTextSeals}
 use Rattle.suite.specs.Meaning.{Given, Meaning}

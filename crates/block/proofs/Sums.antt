@@ -1,5 +1,5 @@
 -- The exclusive or of bytes, place by place. Assumes nothing.
-use Rattle.std.proofs.Common.{◌≡◌, ℕ, zero, suc, ◌+◌, ◌<◌, ◌≤◌, min, List, [], ◌∷◌, ◌++◌, length, get_or, take, drop, set, sym, refl, ap, ◌∙◌, add-one, arith}
+use Rattle.std.proofs.Common.{◌≡◌, ℕ, zero, suc, ◌+◌, ◌<◌, min, List, [], ◌∷◌, length, get_or, take, set, sym, refl, ap, ◌∙◌, add-one, arith}
 use lib.Bits.{bit_xor, xor_assoc, xor_self, xor_zero_r, xor_comm}
 use Rattle.std.proofs.lemmas.Nat.{xor_lt}
 use Rattle.octets.specs.Octets.{Octets}

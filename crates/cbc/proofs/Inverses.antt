@@ -1,6 +1,6 @@
 -- Enciphering and deciphering by cipher block chaining keep the length, give bytes and undo each other, where the cipher's functions do.
 -- Assumes nothing.
-use Rattle.std.proofs.Common.{◌≡◌, ℕ, zero, suc, ◌+◌, ◌-◌, ◌*◌, ◌/◌, ◌%◌, ◌<◌, List, [], ◌++◌, length, take, drop, sym, refl, ap, ◌∙◌, subst, arith}
+use Rattle.std.proofs.Common.{◌≡◌, ℕ, zero, suc, ◌*◌, ◌/◌, ◌%◌, ◌<◌, List, [], ◌++◌, length, take, drop, sym, refl, ap, ◌∙◌, subst, arith}
 use Rattle.std.proofs.ByRecursion.{All-append, All-take, All-drop}
 use Rattle.std.proofs.lemmas.List.{length-append, length-take-le, length-drop, nil_from_length, take-append-drop, take_at, drop_at}
 use Rattle.block.specs.Xor.{xored}

@@ -6,7 +6,7 @@ use Rattle.std.proofs.lemmas.List.{length-append, length-take-le, take_at, drop_
 use Rattle.std.proofs.lemmas.Bool.{cond_both}
 use Rattle.octets.specs.Numbers.{big_endian}
 use Rattle.octets.specs.Octets.{Octets, same}
-use Rattle.octets.proofs.BigEndian.{length-big_endian, octets-big_endian}
+use Rattle.octets.proofs.BigEndian.{octets-big_endian}
 use Rattle.octets.proofs.Octets.{all_replicate, same_refl, same_true}
 use Rattle.block.specs.Xor.{xored}
 use Rattle.block.proofs.Sums.{length-xored, octets-xored, xored_twice}

@@ -1,12 +1,12 @@
 -- What the tests before making say, and what making comes to after them. Assumes nothing.
-use Rattle.std.proofs.Common.{◌≡◌, ℕ, ◌≤◌, Bool, true, false, cond, not, ◌&&◌, ◌||◌, eqb, ltb, List, length, Some, None, Ok, Err, Option, sym, refl, ap, ◌∙◌, arith}
+use Rattle.std.proofs.Common.{◌≡◌, ℕ, Bool, not, ◌&&◌, eqb, ltb, List, length, Some, None, Ok, Err, Option, ap, ◌∙◌, arith}
 use Rattle.std.proofs.lemmas.Bool.{and_parts, or_parts, eqb-true, ltb-false, not-false}
 use Rattle.layout.specs.Refusals.{first_fit, judged}
 use Rattle.layout.specs.declared.Form.{Form}
 use Rattle.layout.proofs.Refusals.{passed_from_ok, judged-passed}
 use Rattle.suite.specs.Meaning.{Meaning}
 use Rattle.suite.specs.declared.Sizes.{Sizes}
-use Rattle.descriptor.specs.Making.{Makeable, make_tests, keys_fit, made_length, made_bytes, making, making_by}
+use Rattle.descriptor.specs.Making.{Makeable, make_tests, keys_fit, made_bytes, making, making_by}
 use Rattle.descriptor.specs.declared.fault.Fault.{Fault}
 use Rattle.descriptor.specs.declared.making.Label.{Label}
 use Rattle.descriptor.specs.declared.protection.Protection.{Protection}

@@ -1,10 +1,9 @@
 -- A descriptor laid out in a buffer: front, then text, then what it seals to in the text's place. Assumes nothing.
-use Rattle.std.proofs.Common.{◌≡◌, ℕ, ◌+◌, ◌-◌, ◌≤◌, List, [], ◌∷◌, ◌++◌, length, take, drop, sym, refl, ap, ◌∙◌, append_assoc, arith}
+use Rattle.std.proofs.Common.{◌≡◌, ℕ, ◌+◌, ◌-◌, ◌≤◌, List, [], ◌∷◌, ◌++◌, length, take, drop, sym, ap, ◌∙◌, append_assoc, arith}
 use borrow.Rule.Slice.PartMut.{put_mid}
 use Rattle.std.proofs.lemmas.List.{length-append, length-drop, length-take-le, take_at, drop_at, drop-drop, take-take}
 use Rattle.octets.specs.Numbers.{big_endian}
 use Rattle.octets.specs.Octets.{over}
-use Rattle.octets.proofs.BigEndian.{length-big_endian}
 use Rattle.octets.proofs.Octets.{over-fits}
 use Rattle.layout.specs.Layout.{descriptor, head_of, lead}
 use Rattle.layout.specs.declared.Form.{Form}

@@ -1,5 +1,5 @@
 -- A buffer that is written from its start on, one part behind another. Assumes nothing.
-use Rattle.std.proofs.Common.{◌≡◌, ℕ, ◌+◌, ◌-◌, ◌≤◌, List, [], ◌++◌, length, take, drop, sym, refl, ap, ◌∙◌, arith}
+use Rattle.std.proofs.Common.{◌≡◌, ℕ, ◌+◌, ◌≤◌, List, [], ◌++◌, length, sym, refl, ap, ◌∙◌, arith}
 use Rattle.octets.specs.Octets.{over, placed}
 use Rattle.octets.proofs.Octets.{over-nil, placed_behind}
 

@@ -1,24 +1,23 @@
 -- What is made opens to its data, for every suite. Assumes nothing.
-use Rattle.std.proofs.Common.{◌≡◌, ℕ, ◌+◌, ◌-◌, ◌%◌, ◌^◌, ◌<◌, ◌≤◌, max, Bool, true, false, cond, ◌&&◌, eqb, ltb, List, ◌++◌, length, take, drop, IfOk, Some, Ok, Result, sym, refl, ap, ◌∙◌, subst, arith}
+use Rattle.std.proofs.Common.{◌≡◌, ℕ, ◌+◌, ◌-◌, ◌%◌, ◌^◌, ◌<◌, ◌≤◌, max, Bool, true, false, cond, ◌&&◌, eqb, List, ◌++◌, length, take, drop, IfOk, Some, Ok, Result, sym, refl, ap, ◌∙◌, subst, arith}
 use Rattle.std.specs.List.{between}
 use Rattle.std.specs.Option.{ok_or}
 use Rattle.std.proofs.ByRecursion.{All-append}
 use Rattle.std.proofs.lemmas.List.{length-append, take_at}
 use Rattle.std.proofs.lemmas.Bool.{le-ltb, ne_eqb, and_left, and_right}
-use Rattle.octets.specs.Octets.{Octets, over}
+use Rattle.octets.specs.Octets.{over}
 use Rattle.octets.specs.Numbers.{big_endian}
 use Rattle.octets.proofs.Octets.{over-fits}
 use Rattle.octets.proofs.BigEndian.{octets-big_endian}
-use Rattle.padding.specs.Padding.{unpadded, padded, least_pad, padded_length}
+use Rattle.padding.specs.Padding.{unpadded, least_pad}
 use Rattle.padding.proofs.Laws.{unpadded-padded}
 use Rattle.padding.proofs.Least.{least_pad_at_most_15}
 use Rattle.layout.specs.Frame.{framed, parted, parts_at}
 use Rattle.layout.specs.Layout.{descriptor, head_of, lead, span_of}
 use Rattle.layout.specs.declared.Frame.{Frame}
-use Rattle.layout.specs.declared.Parts.{Parts}
 use Rattle.layout.proofs.Framing as framing
 use Rattle.suite.specs.Fits.{Lengths, Openable}
-use Rattle.suite.specs.Laws.{Bounded, Served, Fitting, Text, OpeningUndoesSealing, SealingAddsTheCheckValue}
+use Rattle.suite.specs.Laws.{Bounded, Served, Text, OpeningUndoesSealing, SealingAddsTheCheckValue}
 use Rattle.suite.specs.Meaning.{Given, Meaning, lengths_fit, text_fits}
 use Rattle.suite.specs.Meaning as suite
 use Rattle.suite.specs.declared.Fault.TheVariants.{Mismatch}
@@ -26,11 +25,11 @@ use Rattle.suite.specs.declared.Sizes.{Sizes}
 use Rattle.suite.proofs.Lengths.{lengths-fit, text-fits, opening-fits}
 use Rattle.suite.proofs.Outcomes.{opening-served}
 use Rattle.descriptor.specs.Laws.{AllBytes, OpensIn, OpensTo}
-use Rattle.descriptor.specs.Making.{Makeable, made_length}
+use Rattle.descriptor.specs.Making.{Makeable}
 use Rattle.layout.specs.declared.Fault.TheVariants.{Length}
 use Rattle.descriptor.specs.declared.fault.Fault.{Fault}
 use Rattle.descriptor.specs.declared.fault.Fault.TheVariants.{Layout}
-use Rattle.descriptor.specs.Opening.{refused, opened, unpadding, concluded, parts_opening, frame_opening, frame_opening_by, opening_at, opening}
+use Rattle.descriptor.specs.Opening.{refused, opened, unpadding, concluded, parts_opening, frame_opening_by, opening_at}
 use Rattle.descriptor.specs.Text.{given_to, text_of, text_length, data_of}
 use Rattle.descriptor.specs.declared.making.Label.{Label}
 use Rattle.descriptor.specs.declared.protection.Protection.{Protection}

@@ -1,11 +1,11 @@
 -- The suite seals the text of the data wherever a descriptor may be made. Assumes nothing.
-use Rattle.std.proofs.Common.{◌≡◌, ℕ, ◌+◌, ◌%◌, ◌^◌, ◌<◌, ◌≤◌, true, List, length, take, Some, Ok, sym, ap, ◌∙◌, subst, arith}
-use Rattle.layout.specs.Layout.{head_of, lead}
+use Rattle.std.proofs.Common.{◌≡◌, ℕ, ◌+◌, ◌^◌, ◌<◌, ◌≤◌, true, List, length, take, Some, Ok, ap, ◌∙◌, arith}
+use Rattle.layout.specs.Layout.{head_of}
 use Rattle.layout.specs.declared.Form.{Form}
 use Rattle.layout.proofs.Framing.{length-descriptor}
 use Rattle.suite.specs.Fits.{Lengths, Sealable}
 use Rattle.suite.specs.Laws.{Bounded, SealingAddsTheCheckValue}
-use Rattle.suite.specs.Meaning.{Given, Meaning, sealing, lengths_fit, text_fits}
+use Rattle.suite.specs.Meaning.{Meaning, sealing, text_fits}
 use Rattle.suite.specs.declared.Sizes.{Sizes}
 use Rattle.suite.proofs.Lengths.{lengths-fit, text-fits, sealing-fits}
 use Rattle.suite.proofs.Outcomes.{sealing-served}

@@ -1,5 +1,5 @@
 -- The text of the data, written in its place. Assumes nothing.
-use Rattle.std.proofs.Common.{◌≡◌, ℕ, ◌+◌, ◌%◌, ◌<◌, ◌≤◌, Bool, true, false, cond, List, ◌++◌, length, take, drop, sym, refl, ap, ◌∙◌, subst, arith}
+use Rattle.std.proofs.Common.{◌≡◌, ℕ, ◌+◌, ◌%◌, ◌≤◌, Bool, true, false, cond, List, ◌++◌, length, take, drop, sym, refl, ap, ◌∙◌, subst, arith}
 use native.Mathlib.Nat.{mod-one}
 use Rattle.octets.specs.Octets.{Octets, over}
 use Rattle.octets.proofs.Octets.{over-fits, over_all, length_over}

@@ -11,7 +11,7 @@
 --   made_bytes ..     the bytes of the descriptor: the text of the data, sealed
 --   making ..        those bytes, or the first refusal that fits; before all, Suite NotServed
 --   answer, output_after, work_after   the answer, the output and the work area after making
-use Rattle.std.specs.Prelude.{◌≡◌, ℕ, ◌+◌, ◌-◌, ◌≤◌, Bool, cond, not, ◌&&◌, ◌||◌, List, [], ◌∷◌, ◌++◌, length, Some, None, Ok, Err, Option, Result, ◌==◌, nat_lt}
+use Rattle.std.specs.Prelude.{◌≡◌, ℕ, ◌+◌, ◌-◌, ◌≤◌, Bool, not, ◌&&◌, ◌||◌, List, [], ◌∷◌, ◌++◌, length, Some, None, Ok, Err, Option, Result, ◌==◌, nat_lt}
 use Rattle.octets.specs.Numbers.{big_endian}
 use Rattle.octets.specs.Octets.{over, wiped}
 use Rattle.layout.specs.Layout.{descriptor, head_of, lead}

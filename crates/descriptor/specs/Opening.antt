@@ -4,7 +4,7 @@
 --   frame_opening ..  what opening the descriptor of a frame comes to
 --   opening ..       the same for a descriptor at a place of the list
 --   answer, data_after, work_after   the answer, the data buffer and the work area after opening
-use Rattle.std.specs.Prelude.{ℕ, ◌+◌, ◌-◌, Bool, cond, List, ◌++◌, length, Some, None, Ok, Err, Option, Result, nat_lt}
+use Rattle.std.specs.Prelude.{ℕ, ◌-◌, cond, List, ◌++◌, length, Some, None, Ok, Err, Option, Result, nat_lt}
 use Rattle.std.specs.List.{between}
 use Rattle.octets.specs.Octets.{over, wiped, zeros}
 use Rattle.layout.specs.Frame.{framed, parted}

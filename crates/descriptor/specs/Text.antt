@@ -4,7 +4,7 @@
 --   text_length z n          its length for n data bytes
 --   data_of z text           the data of a text that was opened; none where its padding is wrong
 --   TextOf z xs text       text is the data xs, with a padding that is allowed on arrival where the suite encrypts
-use Rattle.std.specs.Prelude.{◌≡◌, ℕ, Bool, true, false, cond, List, length, Some, None, Option}
+use Rattle.std.specs.Prelude.{◌≡◌, ℕ, cond, List, length, Some, Option}
 use Rattle.padding.specs.Padding.{padded, unpadded, least_pad, padded_length, Padded}
 use Rattle.suite.specs.Meaning.{Given}
 use Rattle.suite.specs.declared.Sizes.{Sizes}

@@ -1,12 +1,12 @@
 -- A call is served exactly if none of its tests fits.
 use Rattle.std.proofs.Common.{◌≡◌, ℕ, Bool, true, false, cond, List, [], ◌∷◌, Some, Ok, sym, refl, ap, ◌∙◌, ⊎_elim, arith}
-use Rattle.std.specs.List.{AllByRecursion as All}
+use Rattle.std.specs.List.{AllByRecursion}
 use Rattle.std.proofs.lemmas.Bool.{cases_Bool}
 use Rattle.layout.specs.Refusals.{Test, first_fit, judged}
 
 -- no test fits
 abbrev pub Passed : {F : Type 0} → List (Test F) → Type 0
-Passed tests = All (λ test. test.fits ≡ false) tests
+Passed tests = AllByRecursion (λ test. test.fits ≡ false) tests
 
 module _ {X F : Type 0} where
   one_more : (test : Test F) (tests : List (Test F)) (x : X) (b : Bool) → test.fits ≡ b → judged (first_fit (test ∷ tests)) x ≡ judged (cond b (Some test.fault) (first_fit tests)) x

@@ -4,13 +4,12 @@ use native.Mathlib.Nat.{div-div-eq-div-mul, pow-succ'}
 use lib.Arith.{mod-mul}
 use Rattle.std.specs.Int.Digits.{number_from_digits_after}
 use Rattle.std.proofs.lemmas.Nat.{div-mul-add, mod-mul-add}
-use Rattle.std.proofs.lemmas.Int.Digits.{number_push, number_after_append}
+use Rattle.std.proofs.lemmas.Int.Digits.{number_push}
 use Rattle.std.proofs.ByRecursion.{All-push, All-take, All-get_or}
 use Rattle.std.proofs.lemmas.List.{length_push, length-take, length-drop, length-take-le, take_all, drop_all, nil_from_length}
 use Rattle.std.proofs.lemmas.Bool.{le-leb, cond-true}
 use Rattle.octets.specs.Numbers.{big_endian, number, field}
-use Rattle.octets.specs.Octets.{Octets, placed}
-use Rattle.octets.proofs.Octets.{length-placed}
+use Rattle.octets.specs.Octets.{Octets}
 
 pub length-big_endian : (k n : ℕ) → length (big_endian k n) ≡ k
 length-big_endian zero n = refl

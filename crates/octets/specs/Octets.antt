@@ -6,10 +6,10 @@
 --   placed at xs ys  the buffer ys once xs is written at a place; unchanged where xs does not fit there
 --   same xs ys       whether xs and ys are the same bytes
 use Rattle.std.specs.Prelude.{ℕ, ◌+◌, ◌<◌, Bool, true, false, cond, ◌&&◌, List, [], ◌∷◌, ◌++◌, length, take, drop, replicate, ◌==◌, nat_le}
-use Rattle.std.specs.List.{AllByRecursion as All}
+use Rattle.std.specs.List.{AllByRecursion}
 
 abbrev pub Octets : List ℕ → Type 0
-Octets xs = All (λ x. x < 256) xs
+Octets xs = AllByRecursion (λ x. x < 256) xs
 
 abbrev pub zeros : ℕ → List ℕ
 zeros n = replicate n 0

@@ -1,5 +1,5 @@
 -- The steps of sealing and opening a pairing, over plain lists. Assumes nothing.
-use Rattle.std.proofs.Common.{◌≡◌, ℕ, ◌+◌, ◌-◌, ◌%◌, ◌≤◌, Bool, true, false, cond, List, ◌++◌, length, take, drop, Some, None, Ok, sym, refl, ap, ◌∙◌, append_assoc, arith}
+use Rattle.std.proofs.Common.{◌≡◌, ℕ, ◌+◌, ◌-◌, ◌%◌, ◌≤◌, Bool, cond, List, ◌++◌, length, take, drop, Some, None, Ok, sym, ap, ◌∙◌, append_assoc, arith}
 use native.Mathlib.Nat.{sub-zero}
 use Rattle.std.proofs.lemmas.List.{length-append, length-drop, take_at, take_rest, drop-drop, drop_at}
 use Rattle.octets.specs.Octets.{over, placed, same}

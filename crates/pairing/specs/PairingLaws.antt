@@ -1,5 +1,5 @@
 -- A pairing keeps the laws of a suite, since its cipher and its integrity algorithm keep theirs. Assumes nothing.
-use Rattle.std.specs.Prelude.{◌≡◌, ℕ, ◌+◌, ◌-◌, ◌%◌, ◌^◌, ◌<◌, ◌≤◌, Bool, true, false, cond, ◌&&◌, List, ◌++◌, length, take, drop, Some, None, Option, refl}
+use Rattle.std.specs.Prelude.{◌≡◌, ℕ, ◌-◌, ◌%◌, ◌<◌, Bool, true, false, cond, List, ◌++◌, length, take, drop, Some, None, Option, refl}
 use Rattle.std.proofs.Common.{sym, ap, subst, ◌∙◌, arith}
 use Rattle.std.proofs.ByRecursion.{All-append, All-take}
 use Rattle.std.proofs.lemmas.List.{length-append, length-take-le, take_at, drop_at, take-append-drop}
@@ -10,7 +10,7 @@ use Rattle.suite.specs.Cipher.{CipherMeaning, FittingCipher, Whole, BoundedCiphe
 use Rattle.suite.specs.Integrity.{IntegrityMeaning, BoundedIntegrity, IntegritySizesAreBounded, CheckValueHasItsSize}
 use Rattle.suite.specs.Fits.{Lengths}
 use Rattle.suite.specs.Laws.{Bounded, Served, Sealed, Text, SizesAreBounded, SealingAddsTheCheckValue, SealingGivesBytes, OpeningUndoesSealing, WhatOpensWasSealed}
-use Rattle.suite.specs.Meaning.{Given, Meaning, lengths_fit, text_fits, check_size}
+use Rattle.suite.specs.Meaning.{Given, text_fits, check_size}
 use Rattle.suite.specs.declared.CipherSizes.{CipherSizes}
 use Rattle.suite.specs.declared.IntegritySizes.{IntegritySizes}
 use Rattle.suite.specs.declared.Sizes.{Sizes}

@@ -1,6 +1,6 @@
 -- The work area after the guard over it ends, whatever the call has left in its first 240 bytes. Assumes nothing.
-use Rattle.std.proofs.Common.{◌≡◌, ℕ, ◌+◌, ◌-◌, ◌≤◌, List, ◌++◌, length, drop, sym, ap, ◌∙◌, arith}
-use Rattle.std.proofs.lemmas.List.{length-append, length-drop, drop_at}
+use Rattle.std.proofs.Common.{◌≡◌, ℕ, ◌+◌, ◌≤◌, List, ◌++◌, length, drop, sym, ap, ◌∙◌, arith}
+use Rattle.std.proofs.lemmas.List.{length-append, drop_at}
 use Rattle.octets.specs.Octets.{wiped, zeros}
 use Rattle.octets.proofs.Octets.{wiped-fits}
 

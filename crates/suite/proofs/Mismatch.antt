@@ -1,7 +1,7 @@
 -- "Mismatch exactly when no text seals" follows from the two laws of sealing and opening. Assumes nothing.
 use Rattle.std.proofs.Common.{◌≡◌, ℕ, List, Some, None, Option, sym, refl, ap, ◌∙◌, arith}
 use Rattle.suite.specs.Meaning.{Given, Meaning}
-use Rattle.suite.specs.Laws.{Served, Sealed, Text, NoTextSealsTo, OpeningUndoesSealing, WhatOpensWasSealed, MismatchWhenNoTextSeals}
+use Rattle.suite.specs.Laws.{Served, Sealed, NoTextSealsTo, OpeningUndoesSealing, WhatOpensWasSealed, MismatchWhenNoTextSeals}
 use Rattle.suite.specs.declared.triple.Triple.{Triple}
 
 none_is_not_some : {X : Type 0} (x : X) → None ≡ Some x → ⊥

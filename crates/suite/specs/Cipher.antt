@@ -3,11 +3,11 @@
 --   ciphering        what a call comes to, in either direction: the new text, or a fault
 --   FittingCipher   a key and a vector that are bytes and have the sizes of a code that is served
 --   Whole            bytes in whole units
-use Rattle.std.specs.Prelude.{◌≡◌, ℕ, ◌%◌, ◌≤◌, Bool, true, false, cond, ◌&&◌, List, length, Some, None, Ok, Err, Option, Result, ◌==◌, nat_le}
+use Rattle.std.specs.Prelude.{◌≡◌, ℕ, ◌%◌, ◌≤◌, false, cond, ◌&&◌, List, length, Some, None, Ok, Err, Option, Result, ◌==◌, nat_le}
 use Rattle.octets.specs.Octets.{Octets}
 use Rattle.suite.specs.declared.cipher.CipherSizes.{CipherSizes}
 use Rattle.suite.specs.declared.fault.Fault.{Fault}
-use Rattle.suite.specs.declared.fault.Fault.TheVariants.{NotServed, Size, Mismatch}
+use Rattle.suite.specs.declared.fault.Fault.TheVariants.{NotServed, Size}
 
 -- enciphered and deciphered take a key, a vector and a text
 pub record CipherMeaning : Type 0 where

@@ -1,7 +1,7 @@
 -- What an integrity algorithm means: a check value over a key and a message.
 --   IntegrityMeaning   an integrity algorithm: the codes that it serves, with their sizes; the check value
 --   checked            what the check value covers: head, vector and the enciphered text, in this order
-use Rattle.std.specs.Prelude.{◌≡◌, ℕ, ◌≤◌, List, ◌++◌, length, Some, None, Option}
+use Rattle.std.specs.Prelude.{◌≡◌, ℕ, ◌≤◌, List, ◌++◌, length, Some, Option}
 use Rattle.octets.specs.Octets.{Octets}
 use Rattle.suite.specs.declared.integrity.IntegritySizes.{IntegritySizes}
 

@@ -6,7 +6,7 @@
 --   Sealed             bytes that are as long as a text with its check value
 --   NoTextSealsTo   no text seals to these bytes
 -- Each law stands below under the name of what it says.
-use Rattle.std.specs.Prelude.{◌≡◌, ℕ, ◌+◌, ◌-◌, ◌≤◌, Bool, true, false, List, length, Some, None, Option, ◌≢◌}
+use Rattle.std.specs.Prelude.{◌≡◌, ℕ, ◌+◌, ◌-◌, ◌≤◌, true, false, List, length, Some, None, ◌≢◌}
 use Rattle.octets.specs.Octets.{Octets}
 use Rattle.suite.specs.Meaning.{Given, Meaning, lengths_fit, text_fits}
 use Rattle.suite.specs.declared.sizes.Sizes.{Sizes}

@@ -6,7 +6,7 @@
 --   sealing      what a call of seal comes to: the sealed bytes, or a fault
 --   opening      what a call of open comes to: the text, or a fault
 --   counted, output_after, work_after   the answer, the output and the work area after such a call
-use Rattle.std.specs.Prelude.{ℕ, ◌+◌, ◌-◌, ◌%◌, ◌^◌, Bool, cond, ◌&&◌, List, ◌++◌, length, take, Some, None, Ok, Err, Option, Result, ◌==◌, nat_le, nat_lt}
+use Rattle.std.specs.Prelude.{ℕ, ◌+◌, ◌-◌, ◌%◌, ◌^◌, Bool, cond, ◌&&◌, List, length, take, Some, None, Ok, Err, Option, Result, ◌==◌, nat_le, nat_lt}
 use Rattle.std.specs.Option.{ok_or}
 use Rattle.octets.specs.Octets.{over, wiped}
 use Rattle.suite.specs.declared.fault.Fault.{Fault}

@@ -1,4 +1,4 @@
-use Rattle.std.proofs.Common.{length, take, ap, ◌∙◌, arith, rules}
+use Rattle.std.proofs.Common.{length, take, ap, ◌∙◌, arith}
 use Rattle.algorithms.specs.CbcTerms.{schedule_first}
 use Rattle.algorithms.proofs.cbc_cipher.expand.Goals as goal
 

@@ -1,5 +1,5 @@
 use Rattle.std.proofs.Common.{rules}
-use Rattle.block.proofs.Sums.{length-xored, xored-nil, xored_more, xored_all}
+use Rattle.block.proofs.Sums.{xored-nil, xored_more, xored_all}
 use Rattle.block.proofs.xor.xor_front.Goals as goal
 
 pub loop-i-init : goal.loop-i-init

@@ -1,4 +1,4 @@
-use Rattle.std.proofs.Common.{◌≡◌, length, arith, rules}
+use Rattle.std.proofs.Common.{arith, rules}
 use Rattle.cbc.proofs.Steps.{deciphering_starts, deciphering_more, deciphering_ends}
 use Rattle.cbc.proofs.deciphering.decipher_blocks.Goals as goal
 

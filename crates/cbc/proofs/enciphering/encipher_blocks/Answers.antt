@@ -1,4 +1,4 @@
-use Rattle.std.proofs.Common.{◌≡◌, length, arith, rules}
+use Rattle.std.proofs.Common.{arith, rules}
 use Rattle.cbc.proofs.Steps.{enciphering_starts, enciphering_more, enciphering_ends}
 use Rattle.cbc.proofs.enciphering.encipher_blocks.Goals as goal
 

@@ -1,4 +1,4 @@
-use Rattle.std.proofs.Common.{◌≡◌, ◌+◌, ◌≤◌, length, ◌∙◌, arith}
+use Rattle.std.proofs.Common.{◌∙◌, arith}
 use Rattle.octets.specs.Numbers.{big_endian}
 use Rattle.octets.specs.Octets.{zeros}
 use Rattle.octets.proofs.BigEndian.{length-big_endian}

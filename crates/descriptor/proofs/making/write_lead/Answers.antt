@@ -1,4 +1,4 @@
-use Rattle.std.proofs.Common.{◌≡◌, ◌-◌, ◌≤◌, [], ◌∷◌, length, sym, ap, ◌∙◌, arith}
+use Rattle.std.proofs.Common.{◌≡◌, ◌-◌, [], ◌∷◌, sym, ap, ◌∙◌, arith}
 use Rattle.octets.specs.Numbers.{big_endian}
 use Rattle.octets.specs.Octets.{over}
 use Rattle.octets.proofs.BigEndian.{length-big_endian}

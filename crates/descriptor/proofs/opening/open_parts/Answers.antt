@@ -1,4 +1,4 @@
-use Rattle.std.proofs.Common.{◌≡◌, ◌-◌, length, ap, ◌∙◌}
+use Rattle.std.proofs.Common.{ap, ◌∙◌}
 use Rattle.std.specs.List.{between}
 use Rattle.suite.specs.Meaning.{opening}
 use Rattle.descriptor.specs.Opening.{answer, concluded, data_after, work_after}

@@ -1,4 +1,4 @@
-use Rattle.std.proofs.Common.{◌≡◌, ℕ, ◌-◌, ◌≤◌, List, length, take, Ok, Err, sym, refl, ap, ◌∙◌, arith, rules}
+use Rattle.std.proofs.Common.{◌≡◌, ◌-◌, length, take, Err, sym, ap, ◌∙◌, arith, rules}
 use Rattle.octets.specs.Octets.{over}
 use Rattle.octets.proofs.Octets.{length_over, take-over-front}
 use Rattle.suite.specs.Meaning.{check_size, counted, given}

@@ -1,4 +1,4 @@
-use Rattle.std.proofs.Common.{ℕ, ◌<◌, length, get_or, subst, arith, rules}
+use Rattle.std.proofs.Common.{ℕ, ◌<◌, get_or, subst, rules}
 use Rattle.octets.specs.Octets.{Octets}
 use Rattle.std.proofs.ByRecursion.{All-more}
 use Rattle.std.proofs.lemmas.List.{take_all}

@@ -1,5 +1,5 @@
 -- The four quarters, one after another, are all rounds.
-use Rattle.std.proofs.Common.{◌≡◌, refl, ◌∙◌}
+use Rattle.std.proofs.Common.{refl, ◌∙◌}
 use Rattle.chaining.specs.Turns.{turns}
 use Rattle.chaining.proofs.Turns.{turns-after}
 use Rattle.sha.specs.Sha1.{round_at}

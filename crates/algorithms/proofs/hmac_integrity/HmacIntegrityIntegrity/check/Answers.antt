@@ -1,4 +1,4 @@
-use Rattle.std.proofs.Common.{◌≡◌, ◌-◌, List, [], ◌++◌, take, drop, sym, ap, ◌∙◌, append-nil}
+use Rattle.std.proofs.Common.{◌-◌, [], ◌++◌, take, drop, ap, ◌∙◌, append-nil}
 use native.Mathlib.Nat.{sub-zero}
 use Rattle.hmac.specs.Hmac.{hmac}
 use Rattle.octets.specs.Octets.{over}

@@ -1,8 +1,8 @@
-use Rattle.std.proofs.Common.{◌≡◌, ℕ, ◌+◌, ◌-◌, ◌%◌, ◌≤◌, true, false, List, ◌++◌, length, take, drop, Ok, sym, refl, ap, ◌∙◌, arith, rules}
+use Rattle.std.proofs.Common.{◌≡◌, ℕ, ◌-◌, ◌%◌, true, false, ◌++◌, length, take, drop, Ok, sym, refl, ap, ◌∙◌, arith, rules}
 use native.Mathlib.Nat.{sub-zero}
 use Rattle.std.specs.Option.{ok_or}
 use Rattle.std.proofs.lemmas.List.{length-take-le}
-use Rattle.octets.specs.Octets.{over, zeros}
+use Rattle.octets.specs.Octets.{zeros}
 use Rattle.suite.specs.Cipher.{done, text_after}
 use Rattle.suite.specs.Meaning.{given, counted, output_after}
 use Rattle.suite.specs.declared.fault.Fault.TheVariants.{Mismatch}
