@@ -1,12 +1,12 @@
 -- The cipher and the inverse cipher of FIPS 197 (sections 5.1 and 5.3), under a schedule: the round keys, 16 bytes each, in a row.
 -- A schedule that holds fewer than two round keys leaves a block as it is.
---   rounds w          Nr, the number of rounds: one less than the whole round keys in w
+--   rounds w           Nr, the number of rounds: one less than the whole round keys in w
 --   round_key w i      the round key of the round i; that of the round 0 comes before the first round
---   round w i s       the state s after the round i
+--   round w i s        the state s after the round i
 --   rounds_to w n s    the state s after the rounds 1 to n
 --   final_round w i s  the state s after the round i, which is the last: it does not mix the columns
---   cipher w b        the block b, enciphered
---   forward w b       the same for every schedule
+--   cipher w b         the block b, enciphered
+--   forward w b        the same for every schedule
 --   inv_round w i s, inv_rounds_from w n s, inv_final_round w s, inv_cipher w b, inverse w b   the inverses, the rounds being counted down
 use Rattle.std.specs.Prelude.{ℕ, zero, suc, ◌-◌, ◌*◌, ◌/◌, cond, List, length, take, drop, nat_lt}
 use Rattle.fips197.specs.State.{sub_bytes, shift_rows, mix_columns, add_round_key, inv_sub_bytes, inv_shift_rows, inv_mix_columns}

@@ -1,12 +1,12 @@
 -- The key expansion of FIPS 197 (section 5.2). A word is four bytes; Nk is the number of words of the key.
 --   scheduled n        the length of the schedule of a key of n bytes, where such keys are taken: 16 and 32
 --   word w i           the word at place i of the schedule w
---   rot_word t          the bytes of the word t shifted left by one place, round its end
---   sub_word t          each byte of the word t replaced by the S-box
---   rcon_table          the round constants, from the first on
+--   rot_word t         the bytes of the word t shifted left by one place, round its end
+--   sub_word t         each byte of the word t replaced by the S-box
+--   rcon_table         the round constants, from the first on
 --   rcon j             the word of the round constant j, counted from 1
 --   changed nk t i     what is added to an earlier word to give the word i, t being the word before it
---   next_word nk w i    the word i, from the words w before it
+--   next_word nk w i   the word i, from the words w before it
 --   grown nk n key     the key's words and the n words after them
 --   expanded key       the schedule of a key: 4 * (Nk + 7) words
 use Rattle.std.specs.Prelude.{ℕ, zero, suc, ◌+◌, ◌-◌, ◌*◌, ◌/◌, ◌%◌, cond, ◌&&◌, List, [], ◌∷◌, ◌++◌, map, length, take, drop, Some, None, Option, ◌==◌, nat_lt, slice_index}

@@ -1,9 +1,9 @@
 -- Cipher block chaining over any block cipher, as a cipher that a pairing takes. It serves one code, with keys of every length that
 -- the block cipher takes; the vector is a block of 16 bytes, and a text has whole blocks.
---   schedule_served   how long a key's schedule is, where the code and such keys are served
---   cbc_sizes         the sizes
---   cbc_fits          whether vector, text and work area have the right lengths
---   cbc_cipher        what it means as a cipher
+--   schedule_served  how long a key's schedule is, where the code and such keys are served
+--   cbc_sizes        the sizes
+--   cbc_fits         whether vector, text and work area have the right lengths
+--   cbc_cipher       what it means as a cipher
 use Rattle.std.specs.Prelude.{ℕ, ◌%◌, Bool, true, cond, ◌&&◌, List, Some, None, Option, ◌==◌, nat_le}
 use Rattle.cbc.specs.Cbc.{cbc_enciphered, cbc_deciphered}
 use Rattle.suite.specs.Cipher.{CipherMeaning}

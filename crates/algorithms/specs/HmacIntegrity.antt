@@ -1,6 +1,6 @@
 -- HMAC over any hash as an integrity algorithm: under one code, the first bytes of the HMAC are the check value.
 --   possible         whether the key and check value sizes are within bounds, and the check value no longer than a digest
---   hmac_integrity    what it means as an integrity algorithm
+--   hmac_integrity   what it means as an integrity algorithm
 use Rattle.std.specs.Prelude.{ℕ, Bool, cond, ◌&&◌, List, take, Some, None, Option, ◌==◌, nat_le}
 use Rattle.hmac.specs.Hmac.{hmac}
 use Rattle.suite.specs.Integrity.{IntegrityMeaning}

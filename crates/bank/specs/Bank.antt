@@ -1,5 +1,4 @@
 -- A bank of two suites: it serves the triples of both, and the first answers for a triple that both serve.
---   orOther     an answer, or the other where it is none
 --   answering   the first suite where it serves the triple, else the second
 --   bank        what the two mean as one suite
 use Rattle.std.specs.Prelude.{ℕ, List, Some, None, Option}

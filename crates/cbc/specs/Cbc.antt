@@ -1,11 +1,11 @@
 -- Cipher block chaining, as SP 800-38A has it (section 6.2), for blocks of 16 bytes.
 -- P₁ P₂ … are the blocks of the plaintext, C₁ C₂ … those of the ciphertext, IV is the initialization vector, and ⊕ is `xored`.
---   whole_blocks x                     whether x has a whole number of blocks
---   enciphered_blocks ciph n chain x   the first n blocks of x enciphered: Cⱼ = CIPH(Pⱼ ⊕ Cⱼ₋₁), and C₁ = CIPH(P₁ ⊕ chain)
---   deciphered_blocks inv n chain x    the first n blocks of x deciphered: Pⱼ = CIPH⁻¹(Cⱼ) ⊕ Cⱼ₋₁, and P₁ = CIPH⁻¹(C₁) ⊕ chain
---   cbc_enciphered ciph iv x           the ciphertext of the plaintext x, ciph being the forward cipher function under the key
---   cbc_deciphered inv iv x            the plaintext of the ciphertext x, inv being the inverse cipher function under the key
---   last_block chain x                 the last block of the ciphertext x, or chain where x is empty: what the next text is chained to
+--   whole_blocks x                    whether x has a whole number of blocks
+--   enciphered_blocks ciph n chain x  the first n blocks of x enciphered: Cⱼ = CIPH(Pⱼ ⊕ Cⱼ₋₁), and C₁ = CIPH(P₁ ⊕ chain)
+--   deciphered_blocks inv n chain x   the first n blocks of x deciphered: Pⱼ = CIPH⁻¹(Cⱼ) ⊕ Cⱼ₋₁, and P₁ = CIPH⁻¹(C₁) ⊕ chain
+--   cbc_enciphered ciph iv x          the ciphertext of the plaintext x, ciph being the forward cipher function under the key
+--   cbc_deciphered inv iv x           the plaintext of the ciphertext x, inv being the inverse cipher function under the key
+--   last_block chain x                the last block of the ciphertext x, or chain where x is empty: what the next text is chained to
 use Rattle.std.specs.Prelude.{ℕ, zero, suc, ◌/◌, ◌%◌, Bool, List, [], ◌++◌, length, take, drop, ◌==◌}
 use Rattle.block.specs.Xor.{xored}
 

@@ -1,17 +1,17 @@
 -- CCM (SP 800-38C, RFC 3610): a text is authenticated by a chain of blocks and enciphered in counter mode.
 -- e is the forward cipher function under a key, from a block of 16 bytes to another; t is the length of the check value.
---   whole xs                  xs, then as few zeros as make whole blocks
---   chained e n x xs          the chaining value after x, once n blocks of xs are taken in: each is added to it, and the sum enciphered
+--   whole xs                   xs, then as few zeros as make whole blocks
+--   chained e n x xs           the chaining value after x, once n blocks of xs are taken in: each is added to it, and the sum enciphered
 --   length_size nonce          the number of bytes that the text's length and the counter have: nonce and these make 15
---   flags t nonce aad         the first byte of B₀
+--   flags t nonce aad          the first byte of B₀
 --   first_block t nonce aad n  B₀: flags, nonce and the text's length n
 --   encoded_length n           what comes before n bytes of associated data
---   blocks aad text           B₁ and what follows: associated data behind its length, then the text, each in whole blocks
---   tag e t nonce aad text    the first t bytes of the last chaining value
+--   blocks aad text            B₁ and what follows: associated data behind its length, then the text, each in whole blocks
+--   tag e t nonce aad text     the first t bytes of the last chaining value
 --   counter_block nonce i      the counter block Ctr of the number i
---   keystream e nonce n i     n enciphered counter blocks from the number i on
---   masked e nonce xs         xs in counter mode, from the number 1 on
---   sealed, opened            generation-encryption and decryption-verification
+--   keystream e nonce n i      n enciphered counter blocks from the number i on
+--   masked e nonce xs          xs in counter mode, from the number 1 on
+--   sealed, opened             generation-encryption and decryption-verification
 use Rattle.std.specs.Prelude.{ℕ, zero, suc, ◌+◌, ◌-◌, ◌*◌, ◌/◌, ◌%◌, ◌^◌, cond, List, [], ◌∷◌, ◌++◌, length, take, drop, Some, None, Option, ◌==◌, nat_lt}
 use Rattle.octets.specs.Numbers.{big_endian}
 use Rattle.octets.specs.Octets.{zeros, same}

@@ -1,10 +1,10 @@
 -- The parts in which CCM is computed. e is the forward cipher function under a key.
 --   headed b nonce i          a block: the byte b, the nonce, and the number i in the bytes that are left
---   taken_in e x xs            the chaining value after x, once xs is taken in, in whole blocks
+--   taken_in e x xs           the chaining value after x, once xs is taken in, in whole blocks
 --   associated aad            the associated data behind its length
 --   last_value e t nonce aad text  the last chaining value: the tag is its first t bytes
 --   whole_check e t nonce aad text  16 bytes, of which the check value is the first t
---   masked_from e nonce i xs   xs in counter mode, from the number i on
+--   masked_from e nonce i xs  xs in counter mode, from the number i on
 --   first_masked e nonce n out the buffer out once its first n bytes are masked
 --   unmasked e nonce n y out  the buffer out once the first n bytes of y are written over its start, masked
 --   check_placed e t nonce aad n out  the buffer out once the check value over its first n bytes is written behind them

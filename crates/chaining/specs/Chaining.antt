@@ -1,7 +1,7 @@
 -- The padding of a message and the chaining of its blocks, as FIPS 180-4 has them for blocks of 64 bytes (sections 5.1.1, 5.2.1 and 6).
 -- A hash value is a list of words of 32 bits.
 --   Compression         what f is below: f v block is the hash value after v, once the block is taken in
---   zero_count n         how many zeros follow the byte 80h after a message of n bytes: the least count with which 8 bytes more end a block
+--   zero_count n        how many zeros follow the byte 80h after a message of n bytes: the least count with which 8 bytes more end a block
 --   padding n           what follows a message of n bytes: 80h, zeros, and its length in bits, modulo 2 ^ 64, in 8 bytes
 --   padded n xs         the end xs of a message, of which n bytes come before xs, with its padding
 --   marked n block      the block in which the message ends after n bytes: those, 80h and zeros

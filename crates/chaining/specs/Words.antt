@@ -1,14 +1,14 @@
 -- Words of 32 bits as numbers, and FIPS 180-4's operations on them (sections 2.2.2, 3.1, 3.2 and 4.1).
---   x ⊞ y              their sum modulo 2 ^ 32
---   complement x       each bit of x turned over
---   ROTR n x           x rotated right by n bits
---   ROTL n x           x rotated left by n bits
---   SHR n x            x shifted right by n bits
---   Ch x y z           at each bit, y's where x has 1, else z's
---   Maj x y z          at each bit, what at least two of the three have
+--   x ⊞ y               their sum modulo 2 ^ 32
+--   complement x        each bit of x turned over
+--   ROTR n x            x rotated right by n bits
+--   ROTL n x            x rotated left by n bits
+--   SHR n x             x shifted right by n bits
+--   Ch x y z            at each bit, y's where x has 1, else z's
+--   Maj x y z           at each bit, what at least two of the three have
 --   block_word block t  the word at place t of a block, its most significant byte first; 0 past the block
 --   word_bytes ws       the bytes of words, the most significant of each first
---   added n v u        n words: those of v plus those of u, place by place
+--   added n v u         n words: those of v plus those of u, place by place
 use Rattle.std.specs.Prelude.{ℕ, ◌+◌, ◌-◌, ◌*◌, ◌/◌, ◌%◌, ◌^◌, List, [], ◌∷◌, ◌++◌, map, take, drop, bit_and, bit_or, bit_xor, slice_index_or}
 use Rattle.std.specs.List.{range_with_len}
 use Rattle.octets.specs.Numbers.{big_endian, number}

@@ -1,8 +1,8 @@
 -- The encryption algorithms: a row for each code with each of its key lengths, and the names.
---   encryption_table   the rows
---   encryption_fits    whether a row has this code and this length of the key
---   encryption_row     the first row that has them
---   encryption_name    the characters of a code's name, if it has one
+--   encryption_table  the rows
+--   encryption_fits   whether a row has this code and this length of the key
+--   encryption_row    the first row that has them
+--   encryption_name   the characters of a code's name, if it has one
 use Rattle.std.specs.Prelude.{ℕ, Bool, ◌&&◌, List, [], ◌∷◌, codes, Option, ◌==◌}
 use Rattle.codes.specs.Rows.{Name, first_fit, name_of}
 use Rattle.codes.specs.declared.encryption.EncryptionRow.{EncryptionRow}

@@ -1,8 +1,8 @@
 -- The integrity algorithms: a row for each code, and the names.
---   integrity_table   the rows
---   integrity_fits    whether a row has this code
---   integrity_row     the first row that has it
---   integrity_name    the characters of a code's name, if it has one
+--   integrity_table  the rows
+--   integrity_fits   whether a row has this code
+--   integrity_row    the first row that has it
+--   integrity_name   the characters of a code's name, if it has one
 use Rattle.std.specs.Prelude.{ℕ, Bool, List, [], ◌∷◌, codes, Option, ◌==◌}
 use Rattle.codes.specs.Rows.{Name, first_fit, name_of}
 use Rattle.codes.specs.declared.integrity.IntegrityRow.{IntegrityRow}

@@ -1,7 +1,7 @@
 -- Looking up a row or a name in a table.
---   first_fit   the first row that passes a test, if one does
+--   first_fit  the first row that passes a test, if one does
 --   Name       a code with the characters of its name
---   name_of     the name that goes with a code, if one does
+--   name_of    the name that goes with a code, if one does
 use Rattle.std.specs.Prelude.{ℕ, Bool, cond, List, [], ◌∷◌, Some, None, Option, nat_eq}
 use Rattle.std.specs.Option.{option_map}
 

@@ -1,11 +1,11 @@
 -- The sort of every encryption algorithm code.
---   named_codes       the codes that have a row in the table
+--   named_codes      the codes that have a row in the table
 --   within           whether a code is between two codes, both included
 --   named, vendor_specific, restricted   whether a code is in the table, or in the range of that sort
 --   sorted           the sort of a code
---   sort_name         the characters of a sort's name
+--   sort_name        the characters of a sort's name
 --   NamedCode, VendorSpecificCode, RestrictedCode, ReservedCode   what a code of each sort is
---   ExactlyWhen     one fact holds where the other does, and nowhere else
+--   ExactlyWhen      one fact holds where the other does, and nowhere else
 use Rattle.std.specs.Prelude.{◌≡◌, ℕ, ◌≤◌, Bool, true, cond, ◌&&◌, List, map, codes, nat_le}
 use Rattle.std.specs.Char.{char_set_contains}
 use Rattle.codes.specs.Encryption.{encryption_table}

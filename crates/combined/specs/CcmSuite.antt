@@ -1,10 +1,10 @@
 -- CCM as a suite (RFC 4309): one algorithm encrypts the text and computes the check value.
 -- scheduled, expanded and forward are the block cipher's: which keys it takes, a key's schedule, the forward cipher function.
---   ccm_sizes    the sizes: no integrity key, a salt of 3 bytes, a vector of 8, a check value of 16; texts in units of 16
---   sizes_of     these sizes, where the block cipher takes such keys
---   ccm_serves   the sizes under the suite's two codes, for each key that the block cipher takes
+--   ccm_sizes   the sizes: no integrity key, a salt of 3 bytes, a vector of 8, a check value of 16; texts in units of 16
+--   sizes_of    these sizes, where the block cipher takes such keys
+--   ccm_serves  the sizes under the suite's two codes, for each key that the block cipher takes
 --   nonce       the nonce: salt, then vector
---   ccm_suite    what it means as a suite
+--   ccm_suite   what it means as a suite
 --   told r      what CCM answers, as a suite answers it
 use Rattle.std.specs.Prelude.{ℕ, true, cond, ◌&&◌, List, ◌++◌, Some, None, Ok, Err, Option, Result, ◌==◌}
 use Rattle.ccm.specs.Ccm.{sealed, opened}

@@ -1,6 +1,6 @@
 -- The round trip of data through a descriptor.
---   SealingOf ..   the data are those of the one text that seals to a frame's protected part and check value
---   OpensTo ..     wherever the descriptor stands in a list, it opens to these data
+--   SealingOf ..    the data are those of the one text that seals to a frame's protected part and check value
+--   OpensTo ..      wherever the descriptor stands in a list, it opens to these data
 use Rattle.std.specs.Prelude.{◌≡◌, ℕ, ◌≤◌, List, ◌++◌, length, Some, Ok}
 use Rattle.std.specs.List.{between}
 use Rattle.octets.specs.Octets.{Octets}

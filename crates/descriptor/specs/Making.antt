@@ -1,14 +1,14 @@
 -- Making a descriptor.
---   made_length ..    how many bytes it will have
---   keys_fit ..       whether keys and salt have the sizes that the suite tells
---   make_tests ..     refusals, in this order:
+--   made_length ..   how many bytes it will have
+--   keys_fit ..      whether keys and salt have the sizes that the suite tells
+--   make_tests ..    refusals, in this order:
 --                      Suite Size   a key or the salt has the wrong length, or the work area is shorter than 240 bytes
 --                      Vector       the vector has not the size told
 --                      TooLong      the descriptor would have more than 65,535 bytes
 --                      Output       the output is shorter than the descriptor
 --   Makeable ..      none of these refusals fits
---   lead_of, front    what stands before the SAI, and before the protected part
---   made_bytes ..     the bytes of the descriptor: the text of the data, sealed
+--   lead_of, front   what stands before the SAI, and before the protected part
+--   made_bytes ..    the bytes of the descriptor: the text of the data, sealed
 --   making ..        those bytes, or the first refusal that fits; before all, Suite NotServed
 --   answer, output_after, work_after   the answer, the output and the work area after making
 use Rattle.std.specs.Prelude.{◌≡◌, ℕ, ◌+◌, ◌-◌, ◌≤◌, Bool, not, ◌&&◌, ◌||◌, List, [], ◌∷◌, ◌++◌, length, Some, None, Ok, Err, Option, Result, ◌==◌, nat_lt}

@@ -1,8 +1,9 @@
 -- Opening a descriptor.
---   Verdict          what opening comes to: refused with nothing altered; spoiled, with zeros where the text would stand; opened
---   cutTests ..      refusals, in this order: the frame ends after the list does (Layout Length); its parts do not fit (Layout Parts)
---   frame_opening ..  what opening the descriptor of a frame comes to
---   opening ..       the same for a descriptor at a place of the list
+--   Verdict           what opening comes to: refused with nothing altered; spoiled, with zeros where the text would stand; opened
+--   concluded ..      what the suite's answer comes to
+--   frame_opening ..  what opening the descriptor of a frame comes to; refused before the suite opens, in this order: the triple is not
+--                     served (Suite NotServed), the frame ends after the list does (Layout Length), its parts do not fit (Layout Parts)
+--   opening ..        the same for a descriptor at a place of the list
 --   answer, data_after, work_after   the answer, the data buffer and the work area after opening
 use Rattle.std.specs.Prelude.{ℕ, ◌-◌, cond, List, ◌++◌, length, Some, None, Ok, Err, Option, Result, nat_lt}
 use Rattle.std.specs.List.{between}

@@ -1,9 +1,9 @@
 -- What is sealed in a descriptor, and under what.
---   given_to p head vector   what the suite takes under a protection p
---   text_of z xs             the text that is sealed of the data xs: padded where the suite encrypts
---   text_length z n          its length for n data bytes
---   data_of z text           the data of a text that was opened; none where its padding is wrong
---   TextOf z xs text       text is the data xs, with a padding that is allowed on arrival where the suite encrypts
+--   given_to p head vector  what the suite takes under a protection p
+--   text_of z xs            the text that is sealed of the data xs: padded where the suite encrypts
+--   text_length z n         its length for n data bytes
+--   data_of z text          the data of a text that was opened; none where its padding is wrong
+--   TextOf z xs text        text is the data xs, with a padding that is allowed on arrival where the suite encrypts
 use Rattle.std.specs.Prelude.{◌≡◌, ℕ, cond, List, length, Some, Option}
 use Rattle.padding.specs.Padding.{padded, unpadded, least_pad, padded_length, Padded}
 use Rattle.suite.specs.Meaning.{Given}

@@ -1,10 +1,10 @@
 -- The substitution boxes of FIPS 197 (sections 5.1.1 and 5.3.2).
 --   affine_bit b i   the bit at place i of the affine transformation of b
---   affine b        the affine transformation of b, over its bits
---   s_box_table       the S-box, in the order of the bytes that it replaces
+--   affine b         the affine transformation of b, over its bits
+--   s_box_table      the S-box, in the order of the bytes that it replaces
 --   s_box b          the byte that the S-box has in place of b
---   inv_s_box_table    the inverse S-box, in the order of the bytes that it replaces
---   inv_s_box b       the byte that the inverse S-box has in place of b
+--   inv_s_box_table  the inverse S-box, in the order of the bytes that it replaces
+--   inv_s_box b      the byte that the inverse S-box has in place of b
 use Rattle.std.specs.Prelude.{ℕ, ◌+◌, ◌*◌, ◌%◌, ◌^◌, List, [], ◌∷◌, sum_by, slice_index}
 use Rattle.std.specs.List.{range_with_len}
 use Rattle.fips197.specs.Field.{bit}

@@ -1,12 +1,12 @@
 -- The transformations of the state, as FIPS 197 has them (sections 5.1 and 5.3). The state is 16 bytes, column by column.
---   at s r c          the byte of the state s in the row r and the column c, which stands at 4 * c + r
---   filled f          the state with the byte f r c in the row r and the column c
+--   at s r c           the byte of the state s in the row r and the column c, which stands at 4 * c + r
+--   filled f           the state with the byte f r c in the row r and the column c
 --   sub_bytes s        each byte replaced by the S-box
 --   shift_rows s       the row r shifted left by r places, round its end
---   mixed a b c d     the first byte of the column a b c d once it is mixed: the sum of 02 a, 03 b, c and d
+--   mixed a b c d      the first byte of the column a b c d once it is mixed: the sum of 02 a, 03 b, c and d
 --   mix_by f s         each column a b c d replaced by f a b c d, f b c d a, f c d a b and f d a b c
 --   mix_columns s      each column mixed
---   add_round_key k s   the round key k added by exclusive or
+--   add_round_key k s  the round key k added by exclusive or
 --   inv_sub_bytes, inv_shift_rows, inv_mixed, inv_mix_columns   the inverse transformations
 use Rattle.std.specs.Prelude.{ℕ, ◌+◌, ◌-◌, ◌*◌, ◌/◌, ◌%◌, List, map, bit_xor, slice_index}
 use Rattle.std.specs.List.{range_with_len}

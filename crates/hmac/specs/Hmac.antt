@@ -1,10 +1,10 @@
 -- HMAC (RFC 2104), over a hash function: the digest of a message, and the number of bytes in a block.
 --   ipad, opad                      the bytes 36h and 5Ch
 --   padded pad xs                   the exclusive or of each byte of xs with pad
---   short_key digest block key       the key, or its digest where it is longer than a block
---   key_block digest block key       that, with zeros after it up to a whole block
+--   short_key digest block key      the key, or its digest where it is longer than a block
+--   key_block digest block key      that, with zeros after it up to a whole block
 --   hmac digest block key message   H(K XOR opad, H(K XOR ipad, message)), where K is the key block
---   mac_after after size h x         the check value that h comes to once x more has been absorbed: `after` is the meaning
+--   mac_after after size h x        the check value that h comes to once x more has been absorbed: `after` is the meaning
 --                                   of its hashes, and the digest of the inner one is passed on in `size` bytes
 use Rattle.std.specs.Prelude.{ℕ, ◌-◌, cond, List, ◌++◌, map, length, bit_xor, nat_le}
 use Rattle.octets.specs.Octets.{over, zeros}

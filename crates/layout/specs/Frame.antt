@@ -1,19 +1,19 @@
 -- An arriving descriptor in its list: how far it reaches, its SAI and SQN, and where its parts are.
---   number_at k list at       the number of k bytes at a place of the list
+--   number_at k list at      the number of k bytes at a place of the list
 --   reach list place span    how many bytes the descriptor at place has: as DESCRIPTOR LENGTH says, or as given with the call
---   sqn_end span              how many bytes it has up to the end of its SQN
---   frame_tests ..            refusals, in this order:
+--   sqn_end span             how many bytes it has up to the end of its SQN
+--   frame_tests ..           refusals, in this order:
 --                              Cut     fewer bytes than that are left in the list from place on
 --                              Length  the descriptor ends before its SQN does, or after the list does
---   frame_at ..               its form, the place of its SAI, where it ends, SAI and SQN
+--   frame_at ..              its form, the place of its SAI, where it ends, SAI and SQN
 --   framed ..                that frame, or the first refusal that fits
 --   Within list frame        the frame lies in the list
---   protected_length ..       the bytes between a vector of s bytes and a check value of c bytes
---   part_tests ..             refusals, all by the name of Parts:
+--   protected_length ..      the bytes between a vector of s bytes and a check value of c bytes
+--   part_tests ..            refusals, all by the name of Parts:
 --                              fewer than s + c bytes follow SQN
 --                              the protected part is no multiple of the unit u; a unit of 0 is taken as 1
 --                              the protected part is empty with encryption
---   parts_at frame s c        the places in the list where vector, protected part and check value begin, and where the last ends
+--   parts_at frame s c       the places in the list where vector, protected part and check value begin, and where the last ends
 --   parted ..                those places, or the first refusal that fits
 --   InARow frame s c places  the parts follow each other from SQN to the descriptor's end
 use Rattle.std.specs.Prelude.{◌≡◌, ℕ, ◌+◌, ◌-◌, ◌%◌, ◌≤◌, max, Bool, not, ◌&&◌, ◌||◌, List, [], ◌∷◌, length, take, drop, Result, ◌==◌, nat_lt}

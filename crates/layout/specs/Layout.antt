@@ -9,10 +9,10 @@
 --
 --   form_of span      the form of a descriptor that reaches so far
 --   span_of form len  how far a descriptor of len bytes reaches: its own DESCRIPTOR LENGTH tells it, or the call
---   lead form        how many bytes stand before the SAI
+--   lead form         how many bytes stand before the SAI
 --   head_of sai sqn   the bytes of SAI and SQN, which the check value covers first
---   content ..       a descriptor from its SAI on; sealed is the protected part with the check value after it
---   descriptor ..    the bytes of a whole descriptor
+--   content ..        a descriptor from its SAI on; sealed is the protected part with the check value after it
+--   descriptor ..     the bytes of a whole descriptor
 use Rattle.std.specs.Prelude.{ℕ, ◌+◌, List, ◌∷◌, ◌++◌, length}
 use Rattle.octets.specs.Numbers.{big_endian}
 use Rattle.layout.specs.declared.form.Form.{Form}

@@ -1,7 +1,7 @@
 -- The order of refusals: tests in a list, of which the first that fits refuses.
---   Test            a fault, and whether it fits
+--   Test             a fault, and whether it fits
 --   first_fit tests  the fault of the first test that fits; none where none fits
---   judged fault x  refused with the fault, or x where there is none
+--   judged fault x   refused with the fault, or x where there is none
 use Rattle.std.specs.Prelude.{Bool, cond, List, [], ◌∷◌, Some, None, Ok, Err, Option, Result}
 
 pub record Test (F : Type 0) : Type 0 where

@@ -1,4 +1,4 @@
--- Big-endian numbers and their bytes. That bytes xs write a number below 256 ^ length xs is the shelf's `number_lt 256 xs`.
+-- Big-endian numbers and their bytes. That bytes xs write a number below 256 ^ length xs is std's `number_lt 256 xs`.
 use Rattle.std.proofs.Common.{◌≡◌, ℕ, zero, suc, ◌+◌, ◌-◌, ◌*◌, ◌/◌, ◌%◌, ◌^◌, ◌<◌, ◌≤◌, leb, List, [], ◌∷◌, ◌++◌, length, get_or, take, drop, Some, sym, refl, ap, ◌∙◌, mod-eq_of_lt, mul_assoc, mul_comm, add-mul, pow-suc, zero-add, div-one, add-one, arith, drop-cons, take-suc}
 use native.Mathlib.Nat.{div-div-eq-div-mul, pow-succ'}
 use lib.Arith.{mod-mul}

@@ -1,7 +1,7 @@
 -- Big-endian numbers: the most significant byte comes first.
 --   big_endian k n  the k bytes of the number n
---   number xs      the number that the bytes xs write
---   field k xs at  the number of k bytes at a place of xs; none where xs ends before it does
+--   number xs       the number that the bytes xs write
+--   field k xs at   the number of k bytes at a place of xs; none where xs ends before it does
 use Rattle.std.specs.Prelude.{ℕ, zero, suc, ◌+◌, ◌/◌, ◌%◌, cond, List, [], ◌∷◌, ◌++◌, length, take, drop, Some, None, Option, nat_le}
 use Rattle.std.specs.Int.Digits as digits
 

@@ -1,22 +1,22 @@
 -- The padding of a text that is encrypted (ESP-SCSI): the data, then the padding bytes 1, 2, .. p, then PAD LENGTH, a byte that holds p,
 -- then MUST BE ZERO, a zero byte.
---   ramp p            the padding bytes 1, 2, .. p
---   trailer p         what follows the data: padding bytes, PAD LENGTH, MUST BE ZERO
---   padded p xs       the text that p padding bytes make of the data xs
---   Padded xs p text  text is xs with p padding bytes, which an arriving text may have from 0 to 255
---   Fills u n p       n data bytes with p padding bytes fill whole units of u bytes
---   LeastFill u n p   they do, and with fewer padding bytes they do not
+--   ramp p             the padding bytes 1, 2, .. p
+--   trailer p          what follows the data: padding bytes, PAD LENGTH, MUST BE ZERO
+--   padded p xs        the text that p padding bytes make of the data xs
+--   Padded xs p text   text is xs with p padding bytes, which an arriving text may have from 0 to 255
+--   Fills u n p        n data bytes with p padding bytes fill whole units of u bytes
+--   LeastFill u n p    they do, and with fewer padding bytes they do not
 --   pad_to u n         that number of padding bytes, where u is not 0
 --   least_pad u n      the same, with a unit of 0 taken as 1; building uses it
 --   padded_length u n  the text's length then
---   trailed n text    the buffer text once a trailer fills it from place n to its end; unchanged where no trailer has that length
+--   trailed n text     the buffer text once a trailer fills it from place n to its end; unchanged where no trailer has that length
 --   pad_length text    what PAD LENGTH says: the last byte but one
 --   data_end text      where the trailer of that many padding bytes begins
 --   well_padded text   whether that trailer is there, and PAD LENGTH is a byte
 --   data_length text   the length of the data of text; none where text is not well padded
---   cut n text        the first n bytes of text; none where n is none
---   unpadded text     the data of text; none where text is not well padded
---   Lawful            unpadding and padding are inverse to each other
+--   cut n text         the first n bytes of text; none where n is none
+--   unpadded text      the data of text; none where text is not well padded
+--   Lawful             unpadding and padding are inverse to each other
 use Rattle.std.specs.Prelude.{◌≡◌, ℕ, ◌+◌, ◌-◌, ◌%◌, ◌≤◌, max, Bool, cond, ◌&&◌, List, [], ◌∷◌, ◌++◌, length, take, drop, Some, None, Option, nat_le, slice_index}
 use Rattle.std.specs.List.{range_with_len}
 use Rattle.octets.specs.Octets.{same}

@@ -1,7 +1,7 @@
 -- A cipher paired with an integrity algorithm: the cipher's output, then the check value over head, vector and that output.
 --   both         the sizes of a cipher and an integrity algorithm together
 --   paired       the sizes of the pair, where both are served
---   check_value   the check value over an enciphered text
+--   check_value  the check value over an enciphered text
 --   pairing      what the pair means as a suite
 use Rattle.std.specs.Prelude.{ℕ, ◌-◌, cond, List, ◌++◌, length, take, drop, Some, None, Option}
 use Rattle.octets.specs.Octets.{same}

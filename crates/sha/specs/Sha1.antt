@@ -7,7 +7,7 @@
 --   scheduled block w t  the word at place t of the message schedule of a block, w being the words before it
 --   W block              the message schedule of a block, 80 words
 --   round quarter w v    the working variables v after one round of a quarter, with its word w of the schedule
---   round_at w t v        the working variables v after the round t, which is of the quarter t / 20, with the schedule w
+--   round_at w t v       the working variables v after the round t, which is of the quarter t / 20, with the schedule w
 --   rounds w v           the working variables v after all 80 rounds, with the schedule w
 --   compressed v block   the hash value after v, once the block is taken in
 use Rattle.std.specs.Prelude.{ℕ, ◌-◌, ◌/◌, cond, List, [], ◌∷◌, ◌==◌, bit_xor, nat_lt, slice_index, slice_index_or}

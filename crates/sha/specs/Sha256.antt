@@ -9,7 +9,7 @@
 --   W block              the message schedule of a block, 64 words
 --   T₁, T₂               the two sums of a round
 --   round k w v          the working variables v after one round, with its constant k and its word w of the schedule
---   round_at w t v        the working variables v after the round t, with the schedule w
+--   round_at w t v       the working variables v after the round t, with the schedule w
 --   rounds w v           the working variables v after all 64 rounds, with the schedule w
 --   added v u            the words of v plus those of u, place by place
 --   compressed v block   the hash value after v, once the block is taken in

@@ -29,12 +29,12 @@ pub fn sha256_digest(message: &[u8]) -> [u8; 32]
     ensures the_digest { result ≡ sha256 message.now }
 {
     let mut digest = [0; 32];
-    sha256_into(message, &mut digest);
+    digest_into(message, &mut digest);
     digest
 }
 
 // Writes the SHA-256 digest into `out`.
-fn sha256_into(message: &[u8], out: &mut [u8; 32])
+fn digest_into(message: &[u8], out: &mut [u8; 32])
     ensures the_digest { out.new ≡ sha256 message.now }
 {
     let mut hash = Sha256::new();

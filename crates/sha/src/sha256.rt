@@ -131,12 +131,24 @@ fn expanded(w: &[u32; 64], t: usize) -> u32
         .wrapping_add(w[t - 16])
 }
 
+// The word at place `t` of the message schedule, from words before it.
+fn scheduled(block: &[u8; 64], w: &[u32; 64], t: usize) -> u32
+    requires { t < 64 }
+    ensures next_word { result ≡ scheduled block.now w.now t }
+{
+    if t < 16 {
+        block_word(block, t)
+    } else {
+        expanded(w, t)
+    }
+}
+
 // Writes the words of a block at the first 16 places of the message schedule.
 fn write_block(block: &[u8; 64], w: &mut [u32; 64])
     ensures first_words { take 16 w.new ≡ built (scheduled block.now) 16 }
 {
     for t in 0..16 {
-        w[t] = block_word(block, t);
+        w[t] = scheduled(block, w, t);
     }
 }
 

@@ -1,7 +1,7 @@
 -- What a cipher means: a text is enciphered and deciphered in place.
 --   CipherMeaning    a cipher: the codes and key lengths that it serves, with their sizes; both directions
 --   ciphering        what a call comes to, in either direction: the new text, or a fault
---   FittingCipher   a key and a vector that are bytes and have the sizes of a code that is served
+--   FittingCipher    a key and a vector that are bytes and have the sizes of a code that is served
 --   Whole            bytes in whole units
 use Rattle.std.specs.Prelude.{◌≡◌, ℕ, ◌%◌, ◌≤◌, false, cond, ◌&&◌, List, length, Some, None, Ok, Err, Option, Result, ◌==◌, nat_le}
 use Rattle.octets.specs.Octets.{Octets}

@@ -4,7 +4,7 @@
 --   Served             a triple that the suite serves, with what fits its sizes
 --   Text               bytes that may be sealed
 --   Sealed             bytes that are as long as a text with its check value
---   NoTextSealsTo   no text seals to these bytes
+--   NoTextSealsTo      no text seals to these bytes
 -- Each law stands below under the name of what it says.
 use Rattle.std.specs.Prelude.{◌≡◌, ℕ, ◌+◌, ◌-◌, ◌≤◌, true, false, List, length, Some, None, ◌≢◌}
 use Rattle.octets.specs.Octets.{Octets}

@@ -1,8 +1,8 @@
 -- What a protection suite means, and what its calls come to.
 --   Given        what sealing and opening take besides the text
 --   Meaning      a suite: what it serves, with which sizes; sealing; opening
---   lengths_fit   whether key, salt, integrity key, head and vector have their sizes
---   text_fits     whether a text of n bytes may be sealed: a multiple of the unit, below 2^32
+--   lengths_fit  whether key, salt, integrity key, head and vector have their sizes
+--   text_fits    whether a text of n bytes may be sealed: a multiple of the unit, below 2^32
 --   sealing      what a call of seal comes to: the sealed bytes, or a fault
 --   opening      what a call of open comes to: the text, or a fault
 --   counted, output_after, work_after   the answer, the output and the work area after such a call

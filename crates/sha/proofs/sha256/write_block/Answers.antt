@@ -22,8 +22,7 @@ loop-t-preserved c =
     let w = c.loop-t.w in
     let t = c.loop-t.t in
     let reads = first_words block (take t w) t below ∙ sym (first_words block w t below) in
-    let word = c.block_word.ensures.most_significant_byte_first ∙ sym (first_words block w t below) in
-    (simp length-set c.loop-t.invariant.0, built_more _ _ _ reads (omega arith) c.loop-t.invariant.1 word)
+    (simp length-set c.loop-t.invariant.0, built_more _ _ _ reads (omega arith) c.loop-t.invariant.1 c.scheduled.ensures.next_word)
 
 pub returns : goal.returns
 returns c =

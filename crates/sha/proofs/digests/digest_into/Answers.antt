@@ -2,7 +2,7 @@ use Rattle.std.proofs.Common.{sym, ◌∙◌, rules}
 use Rattle.sha.specs.Digests.{sha256}
 use Rattle.sha.proofs.Sized.{length-sha256}
 use Rattle.sha.proofs.Whole.{whole-digest}
-use Rattle.sha.proofs.digests.sha256_into.Goals as goal
+use Rattle.sha.proofs.digests.digest_into.Goals as goal
 
 pub returns : goal.returns
 returns c =
