@@ -11,8 +11,8 @@ import sys
 
 TOKEN = re.compile(r"[^\W\d][\w'′₀₁₂₃]*(?:-[\w'′]+)*")
 
-# The old name and the new one. Four pairs fall together on purpose: a lemma that proves a law, always named by way of
-# its module, has the law's name (sizes_are_bounded, sealing_adds_the_check_value, what_opens_was_sealed,
+# The old name and the new one. Four pairs fall together on purpose: a lemma that proves a law, which an impl names by
+# way of its module, has the law's name (sizes_are_bounded, sealing_adds_the_check_value, what_opens_was_sealed,
 # mismatch_when_no_text_seals).
 NAMES = """
 All-bytes AllBytes

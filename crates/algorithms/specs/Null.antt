@@ -1,5 +1,5 @@
 -- ENCR_NULL: the text goes through as it is. It has the code 8001 000Bh, no key and no vector, and does not encrypt.
---   null_code     its code
+--   null_code    its code
 --   null_cipher  what it means as a cipher
 use Rattle.std.specs.Prelude.{ℕ, false, cond, ◌&&◌, List, Some, None, Option, ◌==◌}
 use Rattle.suite.specs.Cipher.{CipherMeaning}

@@ -5,7 +5,7 @@
 --   last_value e t nonce aad text  the last chaining value: the tag is its first t bytes
 --   whole_check e t nonce aad text  16 bytes, of which the check value is the first t
 --   masked_from e nonce i xs  xs in counter mode, from the number i on
---   first_masked e nonce n out the buffer out once its first n bytes are masked
+--   first_masked e nonce n out  the buffer out once its first n bytes are masked
 --   unmasked e nonce n y out  the buffer out once the first n bytes of y are written over its start, masked
 --   check_placed e t nonce aad n out  the buffer out once the check value over its first n bytes is written behind them
 use Rattle.std.specs.Prelude.{ℕ, ◌+◌, ◌/◌, List, ◌∷◌, ◌++◌, length, take}

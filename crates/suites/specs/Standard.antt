@@ -1,11 +1,11 @@
 -- The standard bank: what it serves, row by row.
---   hmac_sizes key check  the sizes of an integrity algorithm
---   null_hmac_sha2_256_128 what ENCR_NULL with AUTH_HMAC_SHA2_256_128 means as a suite of its own
---   Offer                 a triple that is served, and the sizes told of it
---   standard_offers       every offer of the bank
---   served_by offers t    the sizes told by the first offer that is of the triple t
---   standard_serves t     the sizes that the standard bank tells of t
---   agrees, all_agree     whether an offer, and whether every one, has the sizes of the code tables
+--   hmac_sizes key check    the sizes of an integrity algorithm
+--   null_hmac_sha2_256_128  what ENCR_NULL with AUTH_HMAC_SHA2_256_128 means as a suite of its own
+--   Offer                   a triple that is served, and the sizes told of it
+--   standard_offers         every offer of the bank
+--   served_by offers t      the sizes told by the first offer that is of the triple t
+--   standard_serves t       the sizes that the standard bank tells of t
+--   agrees, all_agree       whether an offer, and whether every one, has the sizes of the code tables
 use Rattle.std.specs.Prelude.{ℕ, ◌+◌, Bool, true, false, cond, ◌&&◌, List, [], ◌∷◌, Some, None, Option, ◌==◌}
 use Rattle.algorithms.specs.HmacIntegrity.{hmac_integrity}
 use Rattle.algorithms.specs.Null.{null_cipher}
