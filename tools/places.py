@@ -22,7 +22,7 @@ CLAUSE = re.compile(r"^\s*(requires|ensures)\*? ?(\w*) ?\{ (.*) \}")
 
 
 def sources():
-    for path in sorted(ROOT.glob("crates/*/src/*.rt")):
+    for path in sorted(ROOT.glob("crates/*/src/**/*.rt")):
         yield path.relative_to(ROOT), path.read_text().splitlines()
 
 
@@ -36,10 +36,17 @@ def functions():
                 i += 1
                 continue
             end = i
-            while end + 1 < len(lines) and not re.match(start[1] + r"(\}|.*;$)", lines[end]):
+            opened = False
+            while end + 1 < len(lines):
+                line = lines[end]
+                if not opened and re.search(r";\s*$", line):
+                    break
+                if not opened and re.search(r"\{.*\}\s*$", line) and not CLAUSE.match(line):
+                    break
+                if opened and line == start[1] + "}":
+                    break
+                opened = opened or bool(re.search(r"\{\s*$", line))
                 end += 1
-            if re.search(r"[;}]\s*$", lines[i]):
-                end = i
             yield path, i + 1, start[2], lines[i : end + 1]
             i = end + 1
 

@@ -61,14 +61,10 @@ impl BlockCipher for Aes {
     }
 
     fn encipher_block(schedule: &[u8], block: &mut [u8; 16]) {
-        if schedule.len() >= 32 {
-            encipher(schedule, block);
-        }
+        encipher(schedule, block);
     }
 
     fn decipher_block(schedule: &[u8], block: &mut [u8; 16]) {
-        if schedule.len() >= 32 {
-            decipher(schedule, block);
-        }
+        decipher(schedule, block);
     }
 }

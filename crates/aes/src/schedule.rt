@@ -1,12 +1,12 @@
 // The key expansion. A schedule is a row of words of four bytes, the first of which are the key's.
-ghost use Rattle.std.specs.Prelude.{◌≡◌, ◌+◌, ◌-◌, ◌*◌, ◌/◌, ◌<◌, ◌≤◌, length, take, slice_index};
+ghost use Rattle.std.specs.Prelude.{◌≡◌, ◌+◌, ◌-◌, ◌*◌, ◌/◌, ◌<◌, ◌≤◌, length, slice_index};
 ghost use Rattle.octets.specs.Octets.{over, placed};
 ghost use Rattle.block.specs.Xor.{xored};
-ghost use Rattle.aes.specs.Schedule.{word, rot_word, sub_word, rcon_table, rcon, changed, next_word, grown, expanded};
+ghost use Rattle.aes.specs.Schedule.{word, rot_word, sub_word, rcon_table, rcon, changed, next_word, expanded};
 
 use block::xor_over;
 use fips197::sub_byte;
-use octets::{copy_at, copy_over};
+use octets::copy_over;
 
 // The round constants, from the first on.
 const ROUND_CONSTANTS: [u8; 10] = [0x01, 0x02, 0x04, 0x08, 0x10, 0x20, 0x40, 0x80, 0x1b, 0x36];
@@ -25,7 +25,7 @@ fn word_at(w: &[u8], i: usize) -> [u8; 4]
     requires word_there { 4 * i + 4 ≤ length w.now }
     ensures the_word { result ≡ word w.now i }
 {
-    [w[4 * i], w[4 * i + 1], w[4 * i + 2], w[4 * i + 3]]
+    w.as_chunks().0[i]
 }
 
 // SubWord.
@@ -54,56 +54,50 @@ fn turn_word(t: &[u8; 4], j: usize) -> [u8; 4]
     ]
 }
 
-// What is added to an earlier word to give the word `i`, from the word `t` before it.
-fn change(nk: usize, t: &[u8; 4], i: usize) -> [u8; 4]
-    requires four_words { 4 ≤ nk }
-    requires past_the_key { nk ≤ i }
-    requires constants_reach { i < 11 * nk }
-    ensures as_its_place_asks { result ≡ changed nk t.now i }
-{
-    if i % nk == 0 {
-        turn_word(t, i / nk)
-    } else if nk > 6 && i % nk == 4 {
-        sub_word(t)
-    } else {
-        *t
+// The place of a word behind the key, under a key of so many words that the round constants reach.
+#[derive(Clone, Copy)]
+struct Place {
+    key_words: usize,
+    word: usize,
+    ghost four_words: { 4 ≤ key_words },
+    ghost past_the_key: { key_words ≤ word },
+    ghost constants_reach: { word < 11 * key_words },
+}
+
+impl Place {
+    // What is added to an earlier word to give the word here, from the word `t` before it.
+    #[tactic(auto, unfolding(crate::specs::Schedule::changed))]
+    fn change(self, t: &[u8; 4]) -> [u8; 4]
+        ensures as_its_place_asks { result ≡ changed self.key_words t.now self.word }
+    {
+        if self.word.is_multiple_of(self.key_words) {
+            turn_word(t, self.word / self.key_words)
+        } else if self.key_words > 6 && self.word % self.key_words == 4 {
+            sub_word(t)
+        } else {
+            *t
+        }
     }
-}
 
-// The word `i`, from the words before it.
-fn next_word(nk: usize, w: &[u8], i: usize) -> [u8; 4]
-    requires four_words { 4 ≤ nk }
-    requires past_the_key { nk ≤ i }
-    requires constants_reach { i < 11 * nk }
-    requires words_there { 4 * i ≤ length w.now }
-    ensures next { result ≡ next_word nk w.now i }
-{
-    let mut next = word_at(w, i - nk);
-    xor_over(&change(nk, &word_at(w, i - 1), i), &mut next);
-    next
-}
+    // The word here, from the words before it.
+    #[tactic(auto, unfolding(crate::specs::Schedule::next_word))]
+    fn next_word(self, w: &[u8]) -> [u8; 4]
+        requires words_there { 4 * self.word ≤ length w.now }
+        ensures next { result ≡ next_word self.key_words w.now self.word }
+    {
+        let mut next = word_at(w, self.word - self.key_words);
+        xor_over(&self.change(&word_at(w, self.word - 1)), &mut next);
+        next
+    }
 
-// Writes the word `i` behind the words before it.
-fn add_word(nk: usize, work: &mut [u8], i: usize)
-    requires four_words { 4 ≤ nk }
-    requires past_the_key { nk ≤ i }
-    requires constants_reach { i < 11 * nk }
-    requires room { 4 * i + 4 ≤ length work.old }
-    ensures word_behind { work.new ≡ placed (4 * i) (next_word nk work.old i) work.old }
-{
-    let next = next_word(nk, work, i);
-    let _ = copy_at(&next, work, 4 * i);
-}
-
-// Writes `n` words behind the key, which is the first `nk` words.
-fn add_words(nk: usize, work: &mut [u8], n: usize)
-    requires four_words { 4 ≤ nk }
-    requires constants_reach { n ≤ 10 * nk }
-    requires room { 4 * (nk + n) ≤ length work.old }
-    ensures words_behind { work.new ≡ over (grown nk n (take (4 * nk) work.old)) work.old }
-{
-    for m in 0..n {
-        add_word(nk, work, nk + m);
+    // Writes the word here behind the words before it.
+    #[tactic(auto, using(octets::proofs::Octets::placed_part))]
+    fn add_word(self, work: &mut [u8])
+        requires room { 4 * self.word + 4 ≤ length work.old }
+        ensures word_behind { work.new ≡ placed (4 * self.word) (next_word self.key_words work.old self.word) work.old }
+    {
+        let next = self.next_word(work);
+        work[4 * self.word..4 * self.word + 4].copy_from_slice(&next);
     }
 }
 
@@ -114,7 +108,10 @@ pub(crate) fn expand(key: &[u8], work: &mut [u8])
     requires room { 16 * (length key.now / 4 + 7) ≤ length work.old }
     ensures schedule_then_old { work.new ≡ over (expanded key.now) work.old }
 {
-    let nk = key.len() / 4;
+    let key_words = key.len() / 4;
     copy_over(key, work);
-    add_words(nk, work, 4 * (nk + 7) - nk);
+    // Stays: the standard's recurrence gives each word by its place, from those at places before it.
+    for word in key_words..4 * (key_words + 7) {
+        Place { key_words, word }.add_word(work);
+    }
 }

@@ -1,15 +1,11 @@
--- What cipher block chaining serves as a cipher has its sizes and a schedule, and that schedule stands at the start of the work area.
--- Assumes nothing.
-use Rattle.std.specs.Prelude.{◌≡◌, ℕ, ◌-◌, ◌%◌, ◌≤◌, Bool, true, false, cond, List, length, take, Some, None, Option, ◌==◌, refl}
-use Rattle.std.proofs.Common.{sym, ap, ◌∙◌, arith}
-use Rattle.std.proofs.Math.Nat.{sub-zero}
-use Rattle.std.proofs.lemmas.Bool.{le-leb, eq-eqb, cond-true}
-use Rattle.block.specs.Schedule.{room_for, written}
-use Rattle.cbc.specs.Cbc.{whole_blocks}
-use Rattle.octets.specs.Octets.{over}
-use Rattle.octets.proofs.Octets.{over_all, take-over-front}
+-- What cipher block chaining serves as a cipher has its sizes and a schedule, and what fits it is blocks. Assumes nothing.
+use Rattle.std.specs.Prelude.{◌≡◌, ℕ, ◌%◌, Bool, true, false, cond, List, length, Some, None, Option, ◌==◌, refl}
+use Rattle.std.proofs.Common.{sym, ap, ◌∙◌}
+use Rattle.cbc.proofs.Inverses.{Block}
+use Rattle.octets.specs.Octets.{Octets}
+use Rattle.suite.specs.Cipher.{FittingCipher, Whole}
 use Rattle.suite.specs.declared.CipherSizes.{CipherSizes}
-use Rattle.algorithms.specs.CbcCipher.{cbc_sizes, schedule_served, sizes_where}
+use Rattle.algorithms.specs.CbcCipher.{cbc_cipher, schedule_served, sizes_where}
 
 -- o is how long the schedule is, where such keys are taken
 pub record Terms (o : Option ℕ) (z : CipherSizes) : Type 0 where
@@ -20,35 +16,39 @@ pub record Terms (o : Option ℕ) (z : CipherSizes) : Type 0 where
   pub encrypts : z.encrypts ≡ true
 
 told : (b : Bool) (o : Option ℕ) (z : CipherSizes) → sizes_where (cond b o None) ≡ Some z → Terms o z
-told false o z e = let n : ◌≡◌ {A = ℕ} 0 1 = cc in absurd (omega arith)
-told true None z e = let n : ◌≡◌ {A = ℕ} 0 1 = cc in absurd (omega arith)
-told true (Some m) z e =
-    let is : z ≡ cbc_sizes = cc in
-    record {
-      schedule = m;
-      taken = refl;
-      vector = ap (λ (y : CipherSizes). y.vector) is;
-      unit = ap (λ (y : CipherSizes). y.unit) is;
-      encrypts = ap (λ (y : CipherSizes). y.encrypts) is;
-    }
+told false o z e = cc
+told true None z e = cc
+told true (Some m) z e = record { schedule = m; taken = refl; vector = cc; unit = cc; encrypts = cc }
 
 pub served : (scheduled : ℕ → Option ℕ) (own code key : ℕ) (z : CipherSizes) → sizes_where (schedule_served scheduled own code key) ≡ Some z → Terms (scheduled key) z
 served scheduled own code key z e = told (code == own) (scheduled key) z e
 
--- a schedule that is written into the work area
-pub schedule_first : (o : Option ℕ) (n : ℕ) (w work : List ℕ) → o ≡ Some n → n ≤ 240 → length w ≡ n → 240 ≤ length work
-    → take n (written (room_for o (length work)) w work) ≡ w
-schedule_first o n w work e short long room =
-    let fits : room_for o (length work) ≡ Some n = ap (λ p. room_for p (length work)) e ∙ cond-true _ _ _ (le-leb n (length work) (omega arith)) in
-    ap (λ p. take n (written p w work)) fits
-    ∙ (ap (λ m. take m (over w work)) (sym long) ∙ take-over-front w work (omega arith))
+-- a vector and a text that have the sizes told
+pub record InBlocks (v x : List ℕ) : Type 0 where
+  pub one_block : length v ≡ 16
+  pub whole_blocks : length x % 16 ≡ 0
 
--- F is what a schedule, a chain and a text come to; the chain is made over some block of the vector's length
-pub turned-fitting : (F : List ℕ → List ℕ → List ℕ → List ℕ) (n : ℕ) (work w vector block chain text out : List ℕ)
-    → take n work ≡ w → length vector ≡ length block → chain ≡ over vector block → length text % 16 ≡ 0
-    → out ≡ cond (whole_blocks text) (F (take (n - 0) work) chain text) text → out ≡ F w vector text
-turned-fitting F n work w vector block chain text out schedule long made whole is =
-    is
-    ∙ (cond-true (whole_blocks text) _ _ (eq-eqb _ _ whole)
-    ∙ (ap (λ s. F s chain text) (ap (λ m. take m work) (sub-zero n) ∙ schedule)
-    ∙ ap (λ c. F w c text) (made ∙ over_all vector block long)))
+pub in_blocks : (scheduled : ℕ → Option ℕ) (own code key : ℕ) (z : CipherSizes) (v x : List ℕ)
+    → sizes_where (schedule_served scheduled own code key) ≡ Some z → length v ≡ z.vector → length x % z.unit ≡ 0 → InBlocks v x
+in_blocks scheduled own code key z v x e long units =
+    let t = served scheduled own code key z e in
+    record { one_block = long ∙ t.vector; whole_blocks = ap (λ u. length x % u) (sym t.unit) ∙ units }
+
+-- a key, a vector and a text that fit, as cipher block chaining takes them
+pub record Chained (schedule v x : List ℕ) : Type 0 where
+  pub schedule_bytes : Octets schedule
+  pub vector : Block v
+  pub whole_blocks : length x % 16 ≡ 0
+
+module _ (scheduled : ℕ → Option ℕ) (expanded : List ℕ → List ℕ) (forward inverse : List ℕ → List ℕ → List ℕ) (own : ℕ)
+    (expanding-gives : (k : List ℕ) (m : ℕ) → scheduled (length k) ≡ Some m → Octets k → Octets (expanded k)) where
+  pub chained : (code : ℕ) (z : CipherSizes) (k v x : List ℕ)
+      → FittingCipher (cbc_cipher scheduled expanded forward inverse own) code z k v → Whole z x → Chained (expanded k) v x
+  chained code z k v x f h =
+      let t = served scheduled own code (length k) z f.told in
+      let b = in_blocks scheduled own code (length k) z v x f.told f.length_of_vector h.units in
+      record {
+        schedule_bytes = expanding-gives k t.schedule t.taken f.key_bytes;
+        vector = record { long = b.one_block; bytes = f.vector_bytes };
+        whole_blocks = b.whole_blocks;
+      }

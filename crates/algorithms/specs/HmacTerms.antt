@@ -1,8 +1,9 @@
 -- What HMAC as an integrity algorithm serves has possible sizes. Assumes nothing.
-use Rattle.std.specs.Prelude.{◌≡◌, ℕ, ◌≤◌, min, Bool, true, false, cond, ◌&&◌, List, ◌++◌, length, take, drop, Some, None, ◌==◌, nat_le, refl}
+use Rattle.std.specs.Prelude.{◌≡◌, ℕ, ◌≤◌, min, Bool, true, false, cond, ◌&&◌, List, ◌++◌, length, take, drop, Some, None, ◌==◌, refl}
 use Rattle.std.proofs.Common.{sym, ap, ◌∙◌, arith, rules}
 use Rattle.std.proofs.lemmas.List.{places, same_lists}
-use Rattle.std.proofs.lemmas.Bool.{and_parts, leb-true}
+use Rattle.std.proofs.lemmas.Bool.{and_parts}
+use Rattle.std.proofs.lemmas.Bool.Decides.{nat_tests}
 use Rattle.octets.specs.Octets.{over}
 use Rattle.suite.specs.declared.IntegritySizes.{IntegritySizes}
 use Rattle.algorithms.specs.HmacIntegrity.{possible, hmac_serves}
@@ -16,19 +17,16 @@ pub record Terms (size : ℕ) (own z : IntegritySizes) : Type 0 where
   pub digest : z.check ≤ size
 
 told : (size : ℕ) (b : Bool) (own z : IntegritySizes) → (b ≡ true → possible size own ≡ true) → cond b (Some own) None ≡ Some z → Terms size own z
-told size false own z p e = let n : ◌≡◌ {A = ℕ} 0 1 = cc in absurd (omega arith)
+told size false own z p e = cc
 told size true own z p e =
     let is : own ≡ z = cc in
     let fits : possible size z ≡ true = ap (possible size) (sym is) ∙ p refl in
-    let a = and_parts (nat_le z.key 32) (nat_le 1 z.check && (nat_le z.check 32 && nat_le z.check size)) fits in
-    let b = and_parts (nat_le 1 z.check) (nat_le z.check 32 && nat_le z.check size) a.1 in
-    let c = and_parts (nat_le z.check 32) (nat_le z.check size) b.1 in
     record {
       same_sizes = is;
-      key = leb-true _ _ a.0;
-      some_check = leb-true _ _ b.0;
-      check = leb-true _ _ c.0;
-      digest = leb-true _ _ c.1;
+      key = grind (arith, nat_tests);
+      some_check = grind (arith, nat_tests);
+      check = grind (arith, nat_tests);
+      digest = grind (arith, nat_tests);
     }
 
 pub served : (digest : List ℕ → List ℕ) (block size own : ℕ) (y : IntegritySizes) (code : ℕ) (z : IntegritySizes)

@@ -1,14 +1,13 @@
 // Cipher block chaining over any block cipher as a cipher.
-ghost use Rattle.std.specs.Prelude.{◌≡◌, ◌%◌, ◌≤◌, length, take, Some};
-ghost use Rattle.std.proofs.Common.{sym, ap, ◌∙◌, arith};
-ghost use Rattle.cbc.specs.Cbc.{cbc_enciphered, cbc_deciphered};
+ghost use Rattle.std.specs.Prelude.{◌≡◌, ℕ, true, List, length, IfOk, IfErr, Ok, Err};
+ghost use Rattle.std.proofs.Common.{arith};
+ghost use Rattle.suite.specs.Cipher.{ciphering};
 ghost use Rattle.algorithms.specs.CbcCipher.{cbc_cipher, cbc_fits, schedule_served};
 ghost use Rattle.std.proofs.lemmas.Bool.{both_ways};
-ghost use Rattle.algorithms.specs.CbcTerms.{served};
+ghost use Rattle.algorithms.specs.CbcTerms.{served, in_blocks, chained};
 ghost use Rattle.cbc.proofs.Inverses.{length-enciphered, length-deciphered, octets-enciphered, octets-deciphered, deciphering_undoes, enciphering_undoes};
 
 use block::{BLOCK, BlockCipher};
-use octets::copy_over;
 use std::marker::PhantomData;
 use suite::{Cipher, CipherSizes, Fault, WORK};
 
@@ -19,13 +18,20 @@ pub struct Cbc<B> {
     pub cipher: PhantomData<B>,
 }
 
+// What either direction starts with: the key's schedule in the work area, and the vector as the first chain.
+#[derive(Drop)]
+struct Start<'a> {
+    schedule: &'a [u8],
+    chain: [u8; BLOCK],
+}
+
 impl<B: BlockCipher> Cipher for Cbc<B> {
-    ghost ciphers = { λ s. cbc_cipher B.BlockCipher.scheduled B.BlockCipher.expanded B.BlockCipher.forward B.BlockCipher.inverse s.code };
+    ghost ciphers = { λ s. cbc_cipher B.scheduled B.expanded B.forward B.inverse s.code };
 
     ghost cipher_sizes_are_bounded = { λ s code key z e.
-        let t = served B.BlockCipher.scheduled s.code code key z e in
+        let t = served B.scheduled s.code code key z e in
         record {
-          key = B.BlockCipher.keys_are_short key t.schedule t.taken;
+          key = B.keys_are_short key t.schedule t.taken;
           vector = omega (arith, t.vector);
           some_unit = omega (arith, t.unit);
           unit = omega (arith, t.unit);
@@ -33,52 +39,36 @@ impl<B: BlockCipher> Cipher for Cbc<B> {
         } };
 
     ghost enciphering_keeps_length = { λ s code z k v x e long units.
-        let t = served B.BlockCipher.scheduled s.code code (length k) z e in
-        let w = B.BlockCipher.expanded k in
-        length-enciphered (B.BlockCipher.forward w) (B.BlockCipher.forward_keeps_length w) v x (long ∙ t.vector)
-        (ap (λ u. length x % u) (sym t.unit) ∙ units) };
+        let b = in_blocks B.scheduled s.code code (length k) z v x e long units in
+        length-enciphered (B.forward (B.expanded k)) (B.forward_keeps_length (B.expanded k)) v x b.one_block b.whole_blocks };
 
     ghost deciphering_keeps_length = { λ s code z k v x e long units.
-        let t = served B.BlockCipher.scheduled s.code code (length k) z e in
-        let w = B.BlockCipher.expanded k in
-        length-deciphered (B.BlockCipher.inverse w) (B.BlockCipher.inverse_keeps_length w) v x (long ∙ t.vector)
-        (ap (λ u. length x % u) (sym t.unit) ∙ units) };
+        let b = in_blocks B.scheduled s.code code (length k) z v x e long units in
+        length-deciphered (B.inverse (B.expanded k)) (B.inverse_keeps_length (B.expanded k)) v x b.one_block b.whole_blocks };
 
     ghost enciphering_gives_bytes = { λ s code z k v x f h.
-        let t = served B.BlockCipher.scheduled s.code code (length k) z f.told in
-        let w = B.BlockCipher.expanded k in
-        let bytes = B.BlockCipher.expanding_gives_bytes k t.schedule t.taken f.key_bytes in
-        octets-enciphered (B.BlockCipher.forward w) (B.BlockCipher.forward_keeps_length w)
-        (λ b. B.BlockCipher.forward_gives_bytes w b bytes) v x
-        (record { long = f.length_of_vector ∙ t.vector; bytes = f.vector_bytes })
-        (ap (λ u. length x % u) (sym t.unit) ∙ h.units) h.bytes };
+        let c = chained B.scheduled B.expanded B.forward B.inverse s.code B.expanding_gives_bytes code z k v x f h in
+        octets-enciphered (B.forward (B.expanded k)) (B.forward_keeps_length (B.expanded k))
+        (λ b. B.forward_gives_bytes (B.expanded k) b c.schedule_bytes) v x c.vector c.whole_blocks h.bytes };
 
     ghost deciphering_gives_bytes = { λ s code z k v x f h.
-        let t = served B.BlockCipher.scheduled s.code code (length k) z f.told in
-        let w = B.BlockCipher.expanded k in
-        let bytes = B.BlockCipher.expanding_gives_bytes k t.schedule t.taken f.key_bytes in
-        octets-deciphered (B.BlockCipher.inverse w) (B.BlockCipher.inverse_keeps_length w)
-        (λ b. B.BlockCipher.inverse_gives_bytes w b bytes) v x
-        (record { long = f.length_of_vector ∙ t.vector; bytes = f.vector_bytes })
-        (ap (λ u. length x % u) (sym t.unit) ∙ h.units) h.bytes };
+        let c = chained B.scheduled B.expanded B.forward B.inverse s.code B.expanding_gives_bytes code z k v x f h in
+        octets-deciphered (B.inverse (B.expanded k)) (B.inverse_keeps_length (B.expanded k))
+        (λ b. B.inverse_gives_bytes (B.expanded k) b c.schedule_bytes) v x c.vector c.whole_blocks h.bytes };
 
     ghost deciphering_undoes_enciphering = { λ s code z k v x f h.
-        let t = served B.BlockCipher.scheduled s.code code (length k) z f.told in
-        let w = B.BlockCipher.expanded k in
-        let bytes = B.BlockCipher.expanding_gives_bytes k t.schedule t.taken f.key_bytes in
-        deciphering_undoes (B.BlockCipher.forward w) (B.BlockCipher.inverse w) v x
-        (record { long = f.length_of_vector ∙ t.vector; bytes = f.vector_bytes })
-        (ap (λ u. length x % u) (sym t.unit) ∙ h.units) h.bytes (B.BlockCipher.forward_keeps_length w)
-        (λ b. B.BlockCipher.forward_gives_bytes w b bytes) (λ b. B.BlockCipher.inverse_undoes_forward w b bytes) };
+        let c = chained B.scheduled B.expanded B.forward B.inverse s.code B.expanding_gives_bytes code z k v x f h in
+        deciphering_undoes (B.forward (B.expanded k)) (B.inverse (B.expanded k)) v x c.vector c.whole_blocks h.bytes
+        (B.forward_keeps_length (B.expanded k))
+        (λ b. B.forward_gives_bytes (B.expanded k) b c.schedule_bytes)
+        (λ b. B.inverse_undoes_forward (B.expanded k) b c.schedule_bytes) };
 
     ghost enciphering_undoes_deciphering = { λ s code z k v x f h.
-        let t = served B.BlockCipher.scheduled s.code code (length k) z f.told in
-        let w = B.BlockCipher.expanded k in
-        let bytes = B.BlockCipher.expanding_gives_bytes k t.schedule t.taken f.key_bytes in
-        enciphering_undoes (B.BlockCipher.forward w) (B.BlockCipher.inverse w) v x
-        (record { long = f.length_of_vector ∙ t.vector; bytes = f.vector_bytes })
-        (ap (λ u. length x % u) (sym t.unit) ∙ h.units) h.bytes (B.BlockCipher.inverse_keeps_length w)
-        (λ b. B.BlockCipher.inverse_gives_bytes w b bytes) (λ b. B.BlockCipher.forward_undoes_inverse w b bytes) };
+        let c = chained B.scheduled B.expanded B.forward B.inverse s.code B.expanding_gives_bytes code z k v x f h in
+        enciphering_undoes (B.forward (B.expanded k)) (B.inverse (B.expanded k)) v x c.vector c.whole_blocks h.bytes
+        (B.inverse_keeps_length (B.expanded k))
+        (λ b. B.inverse_gives_bytes (B.expanded k) b c.schedule_bytes)
+        (λ b. B.forward_undoes_inverse (B.expanded k) b c.schedule_bytes) };
 
     fn sizes(&self, code: u32, key: usize) -> Option<CipherSizes> {
         self.schedule_length(code, key)?;
@@ -97,14 +87,8 @@ impl<B: BlockCipher> Cipher for Cbc<B> {
         text: &mut [u8],
         work: &mut [u8],
     ) -> Result<(), Fault> {
-        let schedule = self
-            .schedule_length(code, key.len())
-            .ok_or(Fault::NotServed)?;
-        if !fit(vector.len(), text.len(), work.len()) {
-            return Err(Fault::Size);
-        }
-        encipher_fitting::<B>(schedule, key, vector, text, work);
-        Ok(())
+        let mut start = self.start(code, key, vector, text, work)?;
+        cbc::encipher::<B>(start.schedule, &mut start.chain, text).map_err(|_| Fault::Size)
     }
 
     fn decipher(
@@ -115,18 +99,22 @@ impl<B: BlockCipher> Cipher for Cbc<B> {
         text: &mut [u8],
         work: &mut [u8],
     ) -> Result<(), Fault> {
-        let schedule = self
-            .schedule_length(code, key.len())
-            .ok_or(Fault::NotServed)?;
-        if !fit(vector.len(), text.len(), work.len()) {
-            return Err(Fault::Size);
-        }
-        decipher_fitting::<B>(schedule, key, vector, text, work);
-        Ok(())
+        let mut start = self.start(code, key, vector, text, work)?;
+        cbc::decipher::<B>(start.schedule, &mut start.chain, text).map_err(|_| Fault::Size)
     }
 }
 
 impl<B: BlockCipher> Cbc<B> {
+    // Serves under a code.
+    pub fn new(code: u32) -> Cbc<B>
+        ensures its_code { result.code ≡ code }
+    {
+        Cbc {
+            code,
+            cipher: PhantomData,
+        }
+    }
+
     // How long the schedule of a key of `key` bytes is, if the code and such keys are served.
     fn schedule_length(&self, code: u32, key: usize) -> Option<usize>
         ensures where_served { result ≡ schedule_served B.scheduled self.now.code code key }
@@ -137,61 +125,32 @@ impl<B: BlockCipher> Cbc<B> {
             None
         }
     }
-}
 
-// Whether a vector, a text and a work area may have these lengths.
-fn fit(vector: usize, text: usize, work: usize) -> bool
-    ensures whether_all_lengths_fit { result ≡ cbc_fits vector text work }
-{
-    vector == BLOCK && text.is_multiple_of(BLOCK) && WORK <= work
-}
-
-// Writes a key's schedule of `schedule` bytes over the start of the work area.
-fn expand<B: BlockCipher>(schedule: usize, key: &[u8], work: &mut [u8])
-    requires served { B.scheduled (length key.now) ≡ Some schedule }
-    requires work_bytes { 240 ≤ length work.old }
-    ensures room { schedule ≤ length work.new }
-    ensures schedule_first { take schedule work.new ≡ B.expanded key.now }
-{
-    B::expand_key(key, work);
-}
-
-// Enciphers a text under a key whose schedule has `schedule` bytes.
-fn encipher_fitting<B: BlockCipher>(
-    schedule: usize,
-    key: &[u8],
-    vector: &[u8],
-    text: &mut [u8],
-    work: &mut [u8],
-)
-    requires served { B.scheduled (length key.now) ≡ Some schedule }
-    requires one_block { length vector.now ≡ 16 }
-    requires whole_blocks { length text.old % 16 ≡ 0 }
-    requires work_bytes { 240 ≤ length work.old }
-    ensures enciphered { text.new ≡ cbc_enciphered (B.forward (B.expanded key.now)) vector.now text.old }
-{
-    expand::<B>(schedule, key, work);
-    let mut chain = [0; BLOCK];
-    copy_over(vector, &mut chain);
-    cbc::encipher::<B>(&work[0..schedule], &mut chain, text);
-}
-
-// Deciphers a text under a key whose schedule has `schedule` bytes.
-fn decipher_fitting<B: BlockCipher>(
-    schedule: usize,
-    key: &[u8],
-    vector: &[u8],
-    text: &mut [u8],
-    work: &mut [u8],
-)
-    requires served { B.scheduled (length key.now) ≡ Some schedule }
-    requires one_block { length vector.now ≡ 16 }
-    requires whole_blocks { length text.old % 16 ≡ 0 }
-    requires work_bytes { 240 ≤ length work.old }
-    ensures deciphered { text.new ≡ cbc_deciphered (B.inverse (B.expanded key.now)) vector.now text.old }
-{
-    expand::<B>(schedule, key, work);
-    let mut chain = [0; BLOCK];
-    copy_over(vector, &mut chain);
-    cbc::decipher::<B>(&work[0..schedule], &mut chain, text);
+    // Expands the key into the work area and copies the vector, where the code and the key are served and all lengths fit.
+    fn start<'a>(
+        &self,
+        code: u32,
+        key: &[u8],
+        vector: &[u8],
+        text: &[u8],
+        work: &'a mut [u8],
+    ) -> Result<Start<'a>, Fault>
+        ensures either_direction_fails_so { IfErr result (λ f. (turned : List ℕ → List ℕ → List ℕ → List ℕ) → ciphering turned (cbc_cipher B.scheduled B.expanded B.forward B.inverse self.now.code) code key.now vector.now text.now work.old ≡ Err f) }
+        ensures either_direction_goes_through { IfOk result (λ s. (turned : List ℕ → List ℕ → List ℕ → List ℕ) → ciphering turned (cbc_cipher B.scheduled B.expanded B.forward B.inverse self.now.code) code key.now vector.now text.now work.old ≡ Ok (turned key.now vector.now text.now)) }
+        ensures schedule_of_the_key { IfOk result (λ s. s.schedule.now ≡ B.expanded key.now) }
+        ensures vector_first { IfOk result (λ s. s.chain ≡ vector.now) }
+        ensures where_all_lengths_fit { IfOk result (λ s. cbc_fits (length vector.now) (length text.now) (length work.old) ≡ true) }
+    {
+        self.schedule_length(code, key.len())
+            .ok_or(Fault::NotServed)?;
+        if !text.len().is_multiple_of(BLOCK) || work.len() < WORK {
+            return Err(Fault::Size);
+        }
+        let chain = <[u8; BLOCK]>::try_from(vector).map_err(|_| Fault::Size)?;
+        let schedule = B::expand_key(key, work).unwrap();
+        Ok(Start {
+            schedule: &work[..schedule],
+            chain,
+        })
+    }
 }

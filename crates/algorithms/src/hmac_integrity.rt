@@ -22,34 +22,43 @@ pub struct HmacIntegrity<H> {
     pub hash: PhantomData<H>,
 }
 
+impl<H: Hash> HmacIntegrity<H> {
+    // Serves under a code, with these sizes where they are possible.
+    pub fn new(code: u32, sizes: IntegritySizes) -> HmacIntegrity<H>
+        ensures its_code { result.code ≡ code }
+        ensures its_sizes { result.sizes ≡ sizes }
+    {
+        HmacIntegrity {
+            code,
+            sizes,
+            hash: PhantomData,
+        }
+    }
+}
+
 impl<H: Hash> Integrity for HmacIntegrity<H> {
-    ghost checks = { λ s. hmac_integrity H.Hash.digest H.Hash.block H.Hash.size s.code s.sizes };
+    ghost checks = { λ s. hmac_integrity H.digest H.block H.size s.code s.sizes };
 
     ghost integrity_sizes_are_bounded = { λ s code z e.
-        let t = served H.Hash.digest H.Hash.block H.Hash.size s.code s.sizes code z e in
+        let t = served H.digest H.block H.size s.code s.sizes code z e in
         record { key = t.key; some_check = t.some_check; check = t.check } };
 
     ghost check_value_has_its_size = { λ s code z key message e.
-        let t = served H.Hash.digest H.Hash.block H.Hash.size s.code s.sizes code z e in
-        let v = SpecsHmac.hmac H.Hash.digest H.Hash.block key message in
+        let t = served H.digest H.block H.size s.code s.sizes code z e in
+        let v = SpecsHmac.hmac H.digest H.block key message in
         let own : s.sizes.check ≡ z.check = ap (λ (y : IntegritySizes). y.check) t.same_sizes in
-        let long : length v ≡ H.Hash.size = length-hmac H.Hash.digest H.Hash.block H.Hash.size H.Hash.sized key message in (
-          All-take (λ n. n < 256) s.sizes.check v (octets-hmac H.Hash.digest H.Hash.block H.Hash.bytes key message),
+        let long : length v ≡ H.size = length-hmac H.digest H.block H.size H.sized key message in (
+          All-take (λ n. n < 256) s.sizes.check v (octets-hmac H.digest H.block H.bytes key message),
           length-take-le s.sizes.check v (omega (arith, t.digest)) ∙ own,
         ) };
 
     fn sizes(&self, code: u32) -> Option<IntegritySizes> {
         let sizes = self.sizes;
-        if code == self.code
-            && sizes.key <= 32
+        let possible = sizes.key <= 32
             && 1 <= sizes.check
             && sizes.check <= 32
-            && sizes.check <= H::digest_size()
-        {
-            Some(sizes)
-        } else {
-            None
-        }
+            && sizes.check <= H::digest_size();
+        (code == self.code && possible).then_some(sizes)
     }
 
     fn check(
@@ -64,7 +73,7 @@ impl<H: Hash> Integrity for HmacIntegrity<H> {
         let mut mac = Hmac::<H>::new(key);
         absorb_message(&mut mac, head, vector, text);
         let n = self.sizes.check.min(out.len());
-        mac.finish(&mut out[0..n]);
+        mac.finish(&mut out[..n]);
     }
 }
 

@@ -29,15 +29,11 @@ impl Cipher for Null {
     ghost enciphering_undoes_deciphering = { Prim.search rules };
 
     fn sizes(&self, code: u32, key: usize) -> Option<CipherSizes> {
-        if code == ENCR_NULL && key == 0 {
-            Some(CipherSizes {
-                vector: 0,
-                unit: 1,
-                encrypts: false,
-            })
-        } else {
-            None
-        }
+        (code == ENCR_NULL && key == 0).then_some(CipherSizes {
+            vector: 0,
+            unit: 1,
+            encrypts: false,
+        })
     }
 
     fn encipher(

@@ -26,6 +26,7 @@ pub trait BlockCipher {
 
     // Writes the schedule of a key over the start of `work` and answers its length, or answers none where such keys are
     // not taken or `work` is too short.
+    // Stays: where a result borrows from `work`, no clause can say what `work` holds afterwards.
     fn expand_key(key: &[u8], work: &mut [u8]) -> Option<usize>
         ensures schedule_counted { result ≡ room_for (scheduled (length key.now)) (length work.old) }
         ensures schedule_then_old { work.new ≡ written (room_for (scheduled (length key.now)) (length work.old)) (expanded key.now) work.old };

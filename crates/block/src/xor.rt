@@ -1,20 +1,14 @@
 // The exclusive or of bytes.
-ghost use Rattle.std.specs.Prelude.{◌≡◌, min, length};
+ghost use Rattle.std.specs.Prelude.{◌≡◌};
 ghost use Rattle.block.specs.Xor.{xored};
 
 // Adds `bytes` to the start of `out` by exclusive or, as far as both reach.
 pub fn xor_over(bytes: &[u8], out: &mut [u8])
     ensures sums_then_old { out.new ≡ xored out.old bytes.now }
 {
-    xor_front(bytes, bytes.len().min(out.len()), out);
-}
-
-// Adds the `front` of `bytes` that `out` has room for.
-fn xor_front(bytes: &[u8], front: usize, out: &mut [u8])
-    requires all_that_fits { front ≡ min (length bytes.now) (length out.old) }
-    ensures sums_then_old { out.new ≡ xored out.old bytes.now }
-{
-    for i in 0..front {
-        out[i] ^= bytes[i];
+    let front = bytes.len().min(out.len());
+    // Stays: the place in `out` is counted, since after a `zip` with `iter_mut` a proof knows no more of it than its length.
+    for (i, b) in bytes[..front].iter().enumerate() {
+        out[i] ^= b;
     }
 }

@@ -1,6 +1,10 @@
-// Examples of every refusal, and of the edges of what is built.
+// Examples of every refusal and of the edges of what is built, and of every answer of each suite of the standard bank.
 #![tactic(auto)]
 
+#[cfg(test)]
+mod calls;
+#[cfg(test)]
+mod each_suite;
 #[cfg(test)]
 mod made;
 #[cfg(test)]

@@ -1,5 +1,6 @@
 // Making a descriptor.
-use crate::under::{EMPTY, LONG, OLD, SERVED, UNSERVED, USED, first, first_mut, old, used, wiped};
+use crate::calls::{OLD, SEVENS, first, first_mut, old, used, wiped};
+use crate::under::{EMPTY, LONG, SERVED, UNSERVED};
 use descriptor::{Fault, Label, Protection, make};
 use layout::Form;
 use octets::copy_over;
@@ -8,13 +9,11 @@ use std::test::Fail;
 use suite::{Suite, Triple};
 use suites::null_hmac_sha2_256_128;
 
-const SEVENS: [u8; 64] = [7; 64];
-
 const DATA: [u8; 5] = [1, 2, 3, 4, 5];
 
-// What a call brings, with lengths.
+// What making brings: the form, a triple, and lengths.
 #[derive(Clone, Copy)]
-struct Call {
+struct Making {
     form: Form,
     triple: Triple,
     key: usize,
@@ -25,7 +24,7 @@ struct Call {
     work: usize,
 }
 
-const FITTING: Call = Call {
+const FITTING: Making = Making {
     form: Form::Long,
     triple: SERVED,
     key: 0,
@@ -44,7 +43,7 @@ fn label(form: Form) -> Label {
     }
 }
 
-fn protection(call: Call) -> Protection<'static> {
+fn protection(call: Making) -> Protection<'static> {
     Protection {
         triple: call.triple,
         key: first(&SEVENS, call.key),
@@ -54,7 +53,7 @@ fn protection(call: Call) -> Protection<'static> {
 }
 
 // Making is refused, and changes no byte.
-fn refused<S: Suite>(rt: &impl Abort, suite: &S, call: Call, data: &[u8], fault: Fault) {
+fn refused<S: Suite>(rt: &impl Abort, suite: &S, call: Making, data: &[u8], fault: Fault) {
     let mut out = old();
     let mut work = used();
     let answer = make(
@@ -75,7 +74,7 @@ fn refused<S: Suite>(rt: &impl Abort, suite: &S, call: Call, data: &[u8], fault:
 #[test]
 fn refused_calls(rt: HostRuntime) {
     let size = Fault::Suite(suite::Fault::Size);
-    let unserved = Call {
+    let unserved = Making {
         triple: UNSERVED[0],
         work: 239,
         ..FITTING
@@ -89,14 +88,14 @@ fn refused_calls(rt: HostRuntime) {
     );
     for (call, fault) in [
         (
-            Call {
+            Making {
                 integrity: 31,
                 ..FITTING
             },
             size,
         ),
         (
-            Call {
+            Making {
                 work: 239,
                 vector: 1,
                 out: 0,
@@ -105,16 +104,16 @@ fn refused_calls(rt: HostRuntime) {
             size,
         ),
         (
-            Call {
+            Making {
                 vector: 1,
                 out: 0,
                 ..FITTING
             },
             Fault::Vector,
         ),
-        (Call { out: 36, ..FITTING }, Fault::Output),
+        (Making { out: 36, ..FITTING }, Fault::Output),
         (
-            Call {
+            Making {
                 form: Form::Short,
                 out: 32,
                 ..FITTING

@@ -1,8 +1,8 @@
 // Opening a descriptor.
-use crate::under::{EMPTY, LONG, OLD, SERVED, UNSERVED, old, used, wiped};
+use crate::calls::{OLD, old, used, wiped};
+use crate::under::{EMPTY, LONG, SERVED, UNSERVED};
 use descriptor::{Fault, Opened, Protection, open};
 use layout::Span;
-use octets::copy_at;
 use std::process::Abort;
 use suite::Suite;
 use suites::null_hmac_sha2_256_128;
@@ -27,18 +27,37 @@ fn found(length: usize) -> Result<Opened, Fault> {
     })
 }
 
+// A list with a descriptor in it, and what it is opened under.
+#[derive(Clone, Copy)]
+struct Arrived<'a> {
+    under: Protection<'a>,
+    list: &'a [u8],
+    place: usize,
+    span: Span,
+}
+
+const WHOLE: Arrived<'static> = Arrived {
+    under: UNDER,
+    list: &LONG,
+    place: 0,
+    span: Span::Long,
+};
+
 // Opening gives this answer, after which the buffer is `data` and the work area `area`.
 fn opens<S: Suite>(
     rt: &impl Abort,
     suite: &S,
-    under: Protection<'_>,
-    list: &[u8],
-    place: usize,
-    span: Span,
+    arrived: Arrived<'_>,
     answer: Result<Opened, Fault>,
     data: [u8; 8],
     area: [u8; 241],
 ) {
+    let Arrived {
+        under,
+        list,
+        place,
+        span,
+    } = arrived;
     let mut out = [OLD; 8];
     let mut work = used();
     assert_eq!(rt;
@@ -50,24 +69,21 @@ fn opens<S: Suite>(
 }
 
 // Opening is refused, and changes no byte.
-fn refused(rt: &impl Abort, list: &[u8], place: usize, span: Span, fault: layout::Fault) {
-    opens(
-        rt,
-        &null_hmac_sha2_256_128(),
-        UNDER,
-        list,
-        place,
-        span,
-        Err(Fault::Layout(fault)),
-        [OLD; 8],
-        used(),
-    );
+fn refused<S: Suite>(rt: &impl Abort, suite: &S, arrived: Arrived<'_>, fault: Fault) {
+    opens(rt, suite, arrived, Err(fault), [OLD; 8], used());
+}
+
+// The descriptor at place 9 of a list.
+fn between_old_bytes() -> [u8; 64] {
+    let mut list = old();
+    list[9..46].copy_from_slice(&LONG);
+    list
 }
 
 #[test]
 fn opened_data(rt: HostRuntime) {
-    let mut list = old();
-    copy_at(&LONG, &mut list, 9);
+    let suite = null_hmac_sha2_256_128();
+    let list = between_old_bytes();
     let mut reserved = LONG;
     reserved[2] = 0xff;
     reserved[3] = 0xff;
@@ -79,29 +95,20 @@ fn opened_data(rt: HostRuntime) {
         (&reserved, 0, Span::Long),
     ];
     for (list, place, span) in cases {
-        opens(
-            &rt,
-            &null_hmac_sha2_256_128(),
-            UNDER,
+        let arrived = Arrived {
+            under: UNDER,
             list,
             place,
             span,
-            found(5),
-            FIVE,
-            wiped(),
-        );
+        };
+        opens(&rt, &suite, arrived, found(5), FIVE, wiped());
     }
-    opens(
-        &rt,
-        &null_hmac_sha2_256_128(),
-        UNDER,
-        &EMPTY,
-        0,
-        Span::Short(28),
-        found(0),
-        [OLD; 8],
-        wiped(),
-    );
+    let empty = Arrived {
+        list: &EMPTY,
+        span: Span::Short(28),
+        ..WHOLE
+    };
+    opens(&rt, &suite, empty, found(0), [OLD; 8], wiped());
 }
 
 #[test]
@@ -119,7 +126,12 @@ fn not_in_the_list(rt: HostRuntime) {
         (4, Span::Short(27), layout::Fault::Parts),
     ];
     for (place, span, fault) in cases {
-        refused(&rt, &LONG, place, span, fault);
+        let arrived = Arrived {
+            place,
+            span,
+            ..WHOLE
+        };
+        refused(&rt, &null_hmac_sha2_256_128(), arrived, fault.into());
     }
 }
 
@@ -127,17 +139,19 @@ fn not_in_the_list(rt: HostRuntime) {
 #[test]
 fn no_turned_bit_opens(rt: HostRuntime) {
     let answer = Err(Fault::Suite(suite::Fault::Mismatch));
-    for i in 4..37 {
+    let data = [0, 0, 0, 0, 0, OLD, OLD, OLD];
+    // Stays: the loop goes over places, not over bytes: each time one byte of a fresh copy is damaged.
+    for place in 4..37 {
         let mut list = LONG;
-        list[i] ^= 0x10;
-        let data = [0, 0, 0, 0, 0, OLD, OLD, OLD];
+        list[place] ^= 0x10;
+        let damaged = Arrived {
+            list: &list,
+            ..WHOLE
+        };
         opens(
             &rt,
             &null_hmac_sha2_256_128(),
-            UNDER,
-            &list,
-            0,
-            Span::Long,
+            damaged,
             answer,
             data,
             wiped(),
@@ -160,17 +174,7 @@ fn refused_by_the_suite(rt: HostRuntime) {
         (unserved, suite::Fault::NotServed),
         (short_key, suite::Fault::Size),
     ] {
-        let answer = Err(Fault::Suite(fault));
-        opens(
-            &rt,
-            &null_hmac_sha2_256_128(),
-            under,
-            &LONG,
-            0,
-            Span::Long,
-            answer,
-            [OLD; 8],
-            used(),
-        );
+        let arrived = Arrived { under, ..WHOLE };
+        refused(&rt, &null_hmac_sha2_256_128(), arrived, fault.into());
     }
 }

@@ -1,7 +1,7 @@
 -- A list taken 16 elements at a time, the last time what is left. Assumes nothing.
 use Rattle.std.proofs.Common.{◌≡◌, ℕ, zero, suc, ◌+◌, ◌-◌, ◌/◌, ◌<◌, ◌≤◌, min, List, [], ◌∷◌, ◌++◌, length, take, drop, sym, ap, ◌∙◌, ⊎_elim, arith}
 use native.Mathlib.Nat.{sub-zero}
-use Rattle.std.proofs.lemmas.List.{length-drop, take_all, drop_all, drop-drop}
+use Rattle.std.proofs.lemmas.List.{take_all, drop_all}
 use Rattle.std.proofs.lemmas.Bool.{cases_lt}
 
 pub parts-suc : (n : ℕ) → 0 < n → (n + 15) / 16 ≡ suc ((n - 16 + 15) / 16)
@@ -14,13 +14,6 @@ take_min k n xs h =
 pub drop_min : (k n : ℕ) (xs : List ℕ) → n ≡ min k (length xs) → drop n xs ≡ drop k xs
 drop_min k n xs h =
     ⊎_elim (λ l. ap (λ m. drop m xs) (omega arith)) (λ l. drop_all n xs (omega arith) ∙ sym (drop_all k xs l)) (cases_lt k (length xs))
-
--- the part `xs[a..a + n]`, and what lies behind it
-pub part_is : (a n : ℕ) (xs : List ℕ) → n ≡ min 16 (length xs - a) → take (a + n - a) (drop a xs) ≡ take 16 (drop a xs)
-part_is a n xs h = ap (λ m. take m (drop a xs)) (omega arith) ∙ take_min 16 n (drop a xs) (h ∙ ap (min 16) (sym (length-drop a xs)))
-
-pub behind_is : (a n : ℕ) (xs : List ℕ) → n ≡ min 16 (length xs - a) → drop (a + n) xs ≡ drop 16 (drop a xs)
-behind_is a n xs h = sym (drop-drop n a xs) ∙ drop_min 16 n (drop a xs) (h ∙ ap (min 16) (sym (length-drop a xs)))
 
 -- n elements of two lists in a row, where the first has no more
 pub take_behind : (n : ℕ) (xs ys : List ℕ) → length xs ≤ n → take n (xs ++ ys) ≡ xs ++ take (n - length xs) ys

@@ -1,14 +1,14 @@
 -- Bytes taken into a chaining value, block by block. Assumes nothing.
 use Rattle.std.proofs.Common.{◌≡◌, ℕ, zero, suc, ◌+◌, ◌-◌, ◌*◌, ◌/◌, ◌%◌, ◌<◌, ◌≤◌, min, List, [], ◌∷◌, ◌++◌, length, take, drop, sym, refl, ap, ◌∙◌, suc-add, zero-add, arith}
 use lib.Bits.{bit_xor, xor_zero_r}
-use Rattle.std.proofs.lemmas.List.{length-append, length-drop, length-replicate, take-append-le, drop-append-le, nil_from_length, drop-replicate, drop_all, take_all, take_rest, length-take}
+use Rattle.std.proofs.lemmas.List.{length-append, length-drop, length-replicate, take-append-le, drop-append-le, nil_from_length, drop-replicate, take_all, take_at, drop_at, length-take}
 use Rattle.octets.specs.Octets.{zeros, over}
 use Rattle.octets.proofs.Octets.{over-fits}
 use Rattle.block.specs.Xor.{xored}
 use Rattle.block.proofs.Sums.{xored-nil}
 use Rattle.ccm.specs.Ccm.{whole, chained, blocks, first_block, tag, counter_block, check_value}
 use Rattle.ccm.specs.Parts.{taken_in, associated, last_value, whole_check}
-use Rattle.ccm.proofs.Blockwise.{parts-suc, part_is, behind_is}
+use Rattle.ccm.proofs.Blockwise.{parts-suc, take_min, drop_min}
 use Rattle.ccm.proofs.Masks.{take-xored}
 
 -- zeros add nothing
@@ -82,16 +82,16 @@ module _ (e : List ℕ → List ℕ) where
       ∙ (ap (λ n. chained e ((n + 15) / 16) (e (xored x (take 16 xs))) (drop 16 xs)) (sym (length-drop 16 xs))
       ∙ sym (taken_in-parts (e (xored x (take 16 xs))) (drop 16 xs))))
 
-  -- the step of a loop: the part from a on is taken in, and what is left gives the same
-  pub taken_step : (a n : ℕ) (x y xs all : List ℕ) → n ≡ min 16 (length xs - a) → a < length xs
-      → y ≡ e (xored x (take (a + n - a) (drop a xs))) → taken_in e x (drop a xs) ≡ all → taken_in e y (drop (a + n) xs) ≡ all
-  taken_step a n x y xs all h l is so =
-      ap (taken_in e y) (behind_is a n xs h)
-      ∙ (ap (λ z. taken_in e z (drop 16 (drop a xs))) (is ∙ ap (λ z. e (xored x z)) (part_is a n xs h))
-      ∙ (sym (taken_in_more x (drop a xs) (simp length-drop (omega arith))) ∙ so))
+  -- the step of a loop over the parts: one is taken in, and those that are left give the same
+  pub taken_step : (x y part rest xs all : List ℕ) → xs ≡ part ++ rest → length part ≡ min 16 (length xs) → 0 < length xs → y ≡ e (xored x part)
+      → taken_in e x xs ≡ all → taken_in e y rest ≡ all
+  taken_step x y part rest xs all split size some is so =
+      let front : take 16 xs ≡ part = sym (take_min 16 (length part) xs size) ∙ (ap (take (length part)) split ∙ take_at part rest (length part) refl) in
+      let behind : drop 16 xs ≡ rest = sym (drop_min 16 (length part) xs size) ∙ (ap (drop (length part)) split ∙ drop_at part rest (length part) refl) in
+      rw (is, ← front, ← behind) (sym (taken_in_more x xs some) ∙ so)
 
-  pub taken_all : (a : ℕ) (x xs all : List ℕ) → length xs ≤ a → taken_in e x (drop a xs) ≡ all → x ≡ all
-  taken_all a x xs all h so = sym (taken_in-nil x) ∙ (ap (taken_in e x) (sym (drop_all a xs h)) ∙ so)
+  pub taken_all : (x xs all : List ℕ) → length xs ≡ 0 → taken_in e x xs ≡ all → x ≡ all
+  taken_all x xs all none so = sym (taken_in-nil x) ∙ (ap (taken_in e x) (sym (nil_from_length xs none)) ∙ so)
 
   tag_is : (t : ℕ) (nonce aad text : List ℕ) → tag e t nonce aad text ≡ take t (last_value e t nonce aad text)
   unfolding tag blocks taken_in
@@ -110,10 +110,9 @@ module _ (e : List ℕ → List ℕ) where
       take-xored t (last_value e t nonce aad text) (e (counter_block nonce 0))
       ∙ ap (λ z. xored z (e (counter_block nonce 0))) (sym (tag_is t nonce aad text))
 
-  -- a first block, and what is left of xs
-  pub taken_first : (n : ℕ) (x y first xs ys : List ℕ) → 0 < length xs → first ≡ over (take 16 xs) (zeros 16) → drop 16 xs ≡ drop n ys
-      → y ≡ e (xored x first) → taken_in e y (take (length ys - n) (drop n ys)) ≡ taken_in e x xs
-  taken_first n x y first xs ys h is rest yis =
-      ap (taken_in e y) (take_rest ys n ∙ sym rest)
-      ∙ (ap (λ z. taken_in e z (drop 16 xs)) (yis ∙ ap e (ap (xored x) is ∙ xored-over x (take 16 xs) (simp length-take (omega arith))))
-      ∙ sym (taken_in_more x xs h))
+  -- a first block, filled up with zeros, and the rest
+  pub taken_first : (x y first rest xs : List ℕ) → 0 < length xs → first ≡ over (take 16 xs) (zeros 16) → drop 16 xs ≡ rest → y ≡ e (xored x first)
+      → taken_in e y rest ≡ taken_in e x xs
+  taken_first x y first rest xs some is behind yis =
+      let sum : xored x first ≡ xored x (take 16 xs) = ap (xored x) is ∙ xored-over x (take 16 xs) (simp length-take (omega arith)) in
+      rw (yis, sum, ← behind) (sym (taken_in_more x xs some))

@@ -1,8 +1,8 @@
 pub mod Blockwise
+pub mod BlockBytes
 pub mod Masks
 pub mod Chains
-pub mod BlockBytes
 pub mod Sizes
 pub mod Powers
-pub mod Steps
 pub mod RoundTrip
+pub mod Steps

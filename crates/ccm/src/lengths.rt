@@ -14,11 +14,9 @@ fn fits_in_bytes(text: usize, size: usize) -> bool
 fn lengths_fit(nonce: usize, check: usize, text: usize) -> bool
     ensures whether_they_fit { result ≡ fits nonce check text }
 {
-    7 <= nonce
-        && nonce <= 13
-        && 4 <= check
-        && check <= 16
-        && check % 2 == 0
+    (7..=13).contains(&nonce)
+        && (4..=16).contains(&check)
+        && check.is_multiple_of(2)
         && fits_in_bytes(text, 15 - nonce)
 }
 

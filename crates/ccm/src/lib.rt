@@ -7,6 +7,7 @@ mod fault;
 mod lengths;
 mod masking;
 mod opening;
+mod packet;
 mod sealing;
 
 pub use fault::Fault;

@@ -1,17 +1,16 @@
 // Opening: decryption-verification.
-ghost use Rattle.std.specs.Prelude.{◌≡◌, ◌-◌, ◌≤◌, length, take, drop, if◌then◌else◌};
-ghost use Rattle.std.specs.List.{between};
-ghost use Rattle.octets.specs.Octets.{wiped, same};
-ghost use Rattle.ccm.specs.Ccm.{check_value};
+ghost use Rattle.std.specs.Prelude.{◌≡◌, ◌-◌, ◌≤◌, length, Ok, Err, if◌then◌else◌};
+ghost use Rattle.std.specs.Option.{ok_or};
+ghost use Rattle.octets.specs.Octets.{zeros, same};
+ghost use Rattle.ccm.specs.Ccm.{masked, check_value, opened};
 ghost use Rattle.ccm.specs.Calls.{opening, counted, output_after};
-ghost use Rattle.ccm.specs.Parts.{unmasked};
+ghost use Rattle.ccm.specs.declared.fault.Fault.TheVariants.{Mismatch};
 
-use crate::chain::authenticate;
 use crate::fault::Fault;
 use crate::lengths::can_open;
-use crate::masking::unmask;
-use block::{BLOCK, BlockCipher};
-use octets::{same_octets, zero_first};
+use crate::packet::Packet;
+use block::BlockCipher;
+use std::marker::PhantomData;
 
 // Opens sealed bytes into the start of `out` and answers how many bytes the text has. Where no text seals to them, as many
 // bytes are zero.
@@ -29,68 +28,42 @@ pub fn open<B: BlockCipher>(
     if !can_open(nonce.len(), check, sealed.len(), out.len()) {
         return Err(Fault::Size);
     }
-    let text = sealed.len() - check;
-    if !open_fitting::<B>(schedule, nonce, aad, check, text, sealed, out) {
-        return Err(Fault::Mismatch);
+    // Stays: made here, where the lengths were tested, since what is tested beside them differs between the two directions.
+    let packet = Packet::<B> {
+        schedule,
+        nonce,
+        aad,
+        check,
+        cipher: PhantomData,
+    };
+    packet.open(sealed, out)
+}
+
+impl<'a, B: BlockCipher> Packet<'a, B> {
+    // Opens `sealed` into the start of `out`, and answers how many bytes the text has.
+    fn open(&self, sealed: &[u8], out: &mut [u8]) -> Result<usize, Fault>
+        requires check_there { self.now.check ≤ length sealed.now }
+        requires room { length sealed.now - self.now.check ≤ length out.old }
+        ensures text_counted { result ≡ counted (ok_or (opened (B.forward self.now.schedule.now) self.now.check self.now.nonce.now self.now.aad.now sealed.now) Mismatch) }
+        ensures text_or_zeros_then_old { out.new ≡ output_after (ok_or (opened (B.forward self.now.schedule.now) self.now.check self.now.nonce.now self.now.aad.now sealed.now) Mismatch) (length sealed.now - self.now.check) out.old }
+    {
+        let text = sealed.len() - self.check;
+        let (masked, value) = sealed.split_at(text);
+        self.open_parts(masked, value, &mut out[..text])
     }
-    Ok(text)
-}
 
-// Unmasks the first `text` bytes of `sealed` into the start of `out`, and says whether the check value behind them is right.
-// Where it is not, nothing of them is left.
-fn open_fitting<B: BlockCipher>(
-    schedule: &[u8],
-    nonce: &[u8],
-    aad: &[u8],
-    check: usize,
-    text: usize,
-    sealed: &[u8],
-    out: &mut [u8],
-) -> bool
-    requires nonce_at_least { 7 ≤ length nonce.now }
-    requires nonce_at_most { length nonce.now ≤ 13 }
-    requires check_at_least { 4 ≤ check }
-    requires check_at_most { check ≤ 16 }
-    requires within { text ≤ length sealed.now }
-    requires room { text ≤ length out.old }
-    ensures whether_the_check_value_is_right { result ≡ same (drop text sealed.now) (check_value (B.forward schedule.now) check nonce.now aad.now (take text (unmasked (B.forward schedule.now) nonce.now text sealed.now out.old))) }
-    ensures text_or_zeros { out.new ≡ (if result then unmasked (B.forward schedule.now) nonce.now text sealed.now out.old else wiped text (unmasked (B.forward schedule.now) nonce.now text sealed.now out.old)) }
-{
-    unmask::<B>(schedule, nonce, text, sealed, out);
-    if !is_checked::<B>(schedule, nonce, aad, check, text, sealed, out) {
-        zero_first(text, out);
-        return false;
+    // Unmasks `text` into `out`, which is as long, and answers how many bytes that are. Where the check value over what comes out is not `value`, nothing of it is left.
+    fn open_parts(&self, text: &[u8], value: &[u8], out: &mut [u8]) -> Result<usize, Fault>
+        requires as_long { length out.old ≡ length text.now }
+        ensures refused_where_the_check_value_is_wrong { result ≡ (if same value.now (check_value (B.forward self.now.schedule.now) self.now.check self.now.nonce.now self.now.aad.now (masked (B.forward self.now.schedule.now) self.now.nonce.now text.now)) then Ok (length text.now) else Err Mismatch) }
+        ensures text_or_zeros { out.new ≡ (if same value.now (check_value (B.forward self.now.schedule.now) self.now.check self.now.nonce.now self.now.aad.now (masked (B.forward self.now.schedule.now) self.now.nonce.now text.now)) then masked (B.forward self.now.schedule.now) self.now.nonce.now text.now else zeros (length text.now)) }
+    {
+        out.copy_from_slice(text);
+        self.mask(out);
+        if !self.is_checked(out, value) {
+            out.fill(0);
+            return Err(Fault::Mismatch);
+        }
+        Ok(out.len())
     }
-    true
-}
-
-// Whether the check value over the first `text` bytes of `out` stands in `sealed` from there on.
-fn is_checked<B: BlockCipher>(
-    schedule: &[u8],
-    nonce: &[u8],
-    aad: &[u8],
-    check: usize,
-    text: usize,
-    sealed: &[u8],
-    out: &[u8],
-) -> bool
-    requires nonce_at_least { 7 ≤ length nonce.now }
-    requires nonce_at_most { length nonce.now ≤ 13 }
-    requires check_at_least { 4 ≤ check }
-    requires check_at_most { check ≤ 16 }
-    requires within_sealed { text ≤ length sealed.now }
-    requires within { text ≤ length out.now }
-    ensures whether_they_are_the_same { result ≡ same (drop text sealed.now) (check_value (B.forward schedule.now) check nonce.now aad.now (take text out.now)) }
-{
-    let mut value = [0; BLOCK];
-    authenticate::<B>(schedule, nonce, aad, check, &out[0..text], &mut value);
-    stands_from(text, sealed, &value[0..check])
-}
-
-// Whether `bytes` from `start` on are `value`.
-fn stands_from(start: usize, bytes: &[u8], value: &[u8]) -> bool
-    requires within { start ≤ length bytes.now }
-    ensures whether_the_rest_is_the_value { result ≡ same (between start (length bytes.now) bytes.now) value.now }
-{
-    same_octets(&bytes[start..], value)
 }

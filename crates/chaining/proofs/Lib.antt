@@ -1,2 +1,5 @@
+pub mod Blocks
+mod FromFn
 mod Padded
+mod Taken
 pub mod Turns

@@ -1,32 +1,19 @@
 -- The padding, taken in after the last bytes of a message, gives its hash value.
-use Rattle.std.proofs.Common.{◌≡◌, ℕ, ◌+◌, ◌-◌, ◌*◌, ◌/◌, ◌%◌, ◌^◌, ◌<◌, ◌≤◌, cond, ltb, List, [], ◌∷◌, ◌++◌, length, take, drop, set, sym, refl, ap, ◌∙◌, ⊎_elim, append_assoc, mul_comm, arith}
+use Rattle.std.proofs.Common.{◌≡◌, ℕ, ◌+◌, ◌-◌, ◌*◌, ◌/◌, ◌%◌, ◌^◌, ◌<◌, ◌≤◌, cond, ltb, List, [], ◌∷◌, ◌++◌, length, take, sym, ap, ◌∙◌, ⊎_elim, append_assoc, mul_comm, arith}
 use borrow.Rule.Slice.PartMut.{put_mid}
-use Rattle.std.proofs.lemmas.List.{append-nil, length-append, length-set, length-drop, length-take, length-replicate, take_more_set, replicate-append-replicate, length-take-le, take_at, take_all, drop_all, drop-drop}
+use Rattle.std.proofs.lemmas.List.{append-nil, length-append, length-replicate, replicate-append-replicate, length-take-le, take_at, take_all, drop_all, drop-drop}
 use Rattle.std.proofs.lemmas.Bool.{cases_lt, lt-ltb, le-ltb, cond-true, cond-false}
 use Rattle.octets.specs.Numbers.{big_endian}
-use Rattle.octets.specs.Octets.{zeros, placed}
-use Rattle.octets.proofs.BigEndian.{length-big_endian}
-use Rattle.octets.proofs.Octets.{placed-fits}
+use Rattle.octets.specs.Octets.{zeros}
+use Rattle.octets.proofs.BigEndian.{length-big_endian, descending, big_endian-descending}
 use Rattle.chaining.specs.Chaining.{zero_count, padding, padded, marked, chained, concluded, Compression}
 use Rattle.chaining.specs.Words.{word_bytes}
 use Rattle.chaining.specs.Chained.{chained-block}
 
--- the byte 80h at a place of a block, and zeros after it
-pub end_marked : (at k : ℕ) (b zs : List ℕ) → length b ≡ 64 → at < 64 → k ≡ 63 - at → zs ≡ zeros (length (take k (drop (at + 1) (set b at 0x80)))) → put_mid (at + 1) k (set b at 0x80) zs ≡ marked at b
-end_marked at k b zs whole room e is =
-    let all : length (set b at 0x80) ≡ 64 = length-set b at 0x80 ∙ whole in
-    let count : length (take k (drop (at + 1) (set b at 0x80))) ≡ 63 - at = simp (length-take, length-drop) (omega arith) in
-    let past : drop k (drop (at + 1) (set b at 0x80)) ≡ [] = drop-drop k (at + 1) (set b at 0x80) ∙ drop_all (at + 1 + k) (set b at 0x80) (omega arith) in
-    ap (λ ys. take (at + 1) (set b at 0x80) ++ (zs ++ ys)) past
-    ∙ ap (λ ys. take (at + 1) (set b at 0x80) ++ ys) (append-nil zs ∙ is ∙ ap zeros count)
-    ∙ ap (λ ys. ys ++ zeros (63 - at)) (take_more_set b at 0x80 (omega arith))
-    ∙ append_assoc (take at b) (0x80 ∷ []) (zeros (63 - at))
-
 -- the last block: what it held, and the count of bits
-last_block : (q b : List ℕ) → length q ≡ 8 → length b ≡ 64 → placed 56 q b ≡ take 56 b ++ q
-last_block q b eight whole =
-    placed-fits 56 q b (omega arith)
-    ∙ ap (λ ys. take 56 b ++ (q ++ ys)) (drop_all (56 + length q) b (omega arith))
+last_block : (q b : List ℕ) → length b ≡ 64 → put_mid 56 8 b q ≡ take 56 b ++ q
+last_block q b whole =
+    ap (λ ys. take 56 b ++ (q ++ ys)) (drop-drop 8 56 b ∙ drop_all 64 b (omega arith))
     ∙ ap (λ ys. take 56 b ++ ys) (append-nil q)
 
 -- the end of a message, marked in its block
@@ -82,23 +69,22 @@ both-blocks f v ys zs long also =
     ∙ chained-block f 1 v ys zs long
     ∙ ap (f (f v ys)) (take_all 64 zs (omega arith))
 
-end_one : (f : Compression) (v xs q : List ℕ) → length q ≡ 8 → length xs < 56 → let ys = xs ++ (0x80 ∷ (zeros (55 - length xs) ++ q)) in f v (placed 56 q (ended xs)) ≡ chained f (length ys / 64) v ys
+end_one : (f : Compression) (v xs q : List ℕ) → length q ≡ 8 → length xs < 56 → let ys = xs ++ (0x80 ∷ (zeros (55 - length xs) ++ q)) in f v (take 56 (ended xs) ++ q) ≡ chained f (length ys / 64) v ys
 end_one f v xs q eight room =
     let ys = xs ++ (0x80 ∷ (zeros (55 - length xs) ++ q)) in
     let long : length ys ≡ 64 = simp (length-append, length-replicate) (omega arith) in
-    ap (f v) (last_block q (ended xs) eight (length-ended xs (omega arith)) ∙ one_block xs q room)
+    ap (f v) (one_block xs q room)
     ∙ sym (whole-block f v ys long)
 
-end_two : (f : Compression) (v xs q : List ℕ) → length q ≡ 8 → length xs < 64 → let ys = xs ++ (0x80 ∷ (zeros (119 - length xs) ++ q)) in f (f v (ended xs)) (placed 56 q (zeros 64)) ≡ chained f (length ys / 64) v ys
+end_two : (f : Compression) (v xs q : List ℕ) → length q ≡ 8 → length xs < 64 → let ys = xs ++ (0x80 ∷ (zeros (119 - length xs) ++ q)) in f (f v (ended xs)) (take 56 (zeros 64) ++ q) ≡ chained f (length ys / 64) v ys
 end_two f v xs q eight room =
     let ys = xs ++ (0x80 ∷ (zeros (119 - length xs) ++ q)) in
     let long : length (zeros 56 ++ q) ≡ 64 = length-append (zeros 56) q ∙ omega arith in
-    ap (f (f v (ended xs))) (last_block q (zeros 64) eight refl)
-    ∙ sym (both-blocks f v (ended xs) (zeros 56 ++ q) (length-ended xs room) long)
+    sym (both-blocks f v (ended xs) (zeros 56 ++ q) (length-ended xs room) long)
     ∙ ap (λ zs. chained f (length zs / 64) v zs) (two_blocks xs q room)
 
 -- the hash value w and the block, once the end is marked, and then the count of bits
-padded-whole : (f : Compression) (v w b block : List ℕ) (t : ℕ) → length b ≡ 64 → w ≡ cond (ltb (t % 64) 56) v (f v (marked (t % 64) b)) → block ≡ cond (ltb (t % 64) 56) (marked (t % 64) b) (zeros 64) → f w (placed 56 (big_endian 8 (t * 8 % 2 ^ 64)) block) ≡ concluded f (t - t % 64) v (take (t % 64) b ++ [])
+padded-whole : (f : Compression) (v w b block : List ℕ) (t : ℕ) → length b ≡ 64 → w ≡ cond (ltb (t % 64) 56) v (f v (marked (t % 64) b)) → block ≡ cond (ltb (t % 64) 56) (marked (t % 64) b) (zeros 64) → f w (take 56 block ++ big_endian 8 (t * 8 % 2 ^ 64)) ≡ concluded f (t - t % 64) v (take (t % 64) b ++ [])
 padded-whole f v w b block t whole value is =
     let xs = take (t % 64) b in
     let q = big_endian 8 (t * 8 % 2 ^ 64) in
@@ -109,22 +95,22 @@ padded-whole f v w b block t whole value is =
     λ c e. ap (λ p. chained f (length (xs ++ p) / 64) v (xs ++ p)) (sym (padding_is t c e)) ∙ sym (concluded_end f t v xs long) in
     ⊎_elim
     (λ h. let yes = lt-ltb (t % 64) 56 h in
-    ap (λ u. f u (placed 56 q block)) (value ∙ cond-true (ltb (t % 64) 56) _ _ yes)
-    ∙ ap (λ c. f v (placed 56 q c)) (is ∙ cond-true (ltb (t % 64) 56) _ _ yes ∙ mark)
+    ap (λ u. f u (take 56 block ++ q)) (value ∙ cond-true (ltb (t % 64) 56) _ _ yes)
+    ∙ ap (λ c. f v (take 56 c ++ q)) (is ∙ cond-true (ltb (t % 64) 56) _ _ yes ∙ mark)
     ∙ end_one f v xs q eight (omega arith)
     ∙ end (55 - length xs) (omega arith))
     (λ h. let no' = le-ltb (t % 64) 56 h in
-    ap (λ u. f u (placed 56 q block)) (value ∙ cond-false (ltb (t % 64) 56) _ _ no' ∙ ap (f v) mark)
-    ∙ ap (λ c. f (f v (ended xs)) (placed 56 q c)) (is ∙ cond-false (ltb (t % 64) 56) _ _ no')
+    ap (λ u. f u (take 56 block ++ q)) (value ∙ cond-false (ltb (t % 64) 56) _ _ no' ∙ ap (f v) mark)
+    ∙ ap (λ c. f (f v (ended xs)) (take 56 c ++ q)) (is ∙ cond-false (ltb (t % 64) 56) _ _ no')
     ∙ end_two f v xs q eight (omega arith)
     ∙ end (119 - length xs) (omega arith))
     (cases_lt (t % 64) 56)
 
-pub digest-padded : (f : Compression) (u v w b block last : List ℕ) (t n : ℕ) → length b ≡ 64 → w ≡ cond (ltb (t % 64) 56) v (f v (marked (t % 64) b)) → block ≡ cond (ltb (t % 64) 56) (marked (t % 64) b) (zeros 64) → n ≡ t → last ≡ placed 56 (big_endian 8 (n * 8 % 2 ^ 64)) block → u ≡ f w last → word_bytes u ≡ word_bytes (concluded f (t - t % 64) v (take (t % 64) b ++ []))
-digest-padded f u v w b block last t n whole value is same count turned =
+pub digest-padded : (f : Compression) (u v w b block bits : List ℕ) (t n : ℕ) → length b ≡ 64 → length block ≡ 64 → w ≡ cond (ltb (t % 64) 56) v (f v (marked (t % 64) b)) → block ≡ cond (ltb (t % 64) 56) (marked (t % 64) b) (zeros 64) → n ≡ t → bits ≡ descending 8 (n * 8 % 2 ^ 64) → u ≡ f w (put_mid 56 8 block bits) → word_bytes u ≡ word_bytes (concluded f (t - t % 64) v (take (t % 64) b ++ []))
+digest-padded f u v w b block bits t n whole also value is same count turned =
     ap word_bytes
     (turned
-    ∙ ap (f w) (count ∙ ap (λ m. placed 56 (big_endian 8 (m * 8 % 2 ^ 64)) block) same)
+    ∙ ap (f w) (last_block bits block also ∙ ap (λ q. take 56 block ++ q) (count ∙ sym (big_endian-descending 8 (n * 8 % 2 ^ 64)) ∙ ap (λ m. big_endian 8 (m * 8 % 2 ^ 64)) same))
     ∙ padded-whole f v w b block t whole value is)
 
 -- the count of zeros ends a block, and no smaller one does

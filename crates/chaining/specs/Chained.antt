@@ -38,7 +38,7 @@ concluded-block f n v ys xs e =
     ∙ chained-block f (length (xs ++ p) / 64) v ys (xs ++ p) e
 
 -- the digest of a chain, from its parts
-abbrev digest_of : Compression → List ℕ → List ℕ → ℕ → List ℕ → List ℕ
+abbrev pub digest_of : Compression → List ℕ → List ℕ → ℕ → List ℕ → List ℕ
 digest_of f v block total x = word_bytes (concluded f (total - total % 64) v (take (total % 64) block ++ x))
 
 -- bytes that leave room in the block

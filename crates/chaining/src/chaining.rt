@@ -9,7 +9,6 @@ ghost use Rattle.chaining.specs.WordBytes.{length-word_bytes, octets-word_bytes}
 
 use crate::words::write_words;
 use hmac::Hash;
-use octets::write_u64;
 
 // The hash value of the blocks so far. A hash function supplies this, and `Chain` the rest.
 pub trait Rounds: Sized {
@@ -54,25 +53,26 @@ pub trait Rounds: Sized {
 #[derive(Drop)]
 pub struct Chain<R> {
     rounds: R,
+    // Stays: the block has a fixed place and is filled in part, as the engine has no heap; how far, the count of bytes says.
     block: [u8; 64],
     total: u64,
 }
 
 impl<R: Rounds> Chain<R> {
-    // Takes in as much of `part` as the block has room for, and says how many bytes those are.
-    fn take_in(&mut self, part: &[u8]) -> usize
-        ensures some { 0 < length part.now → 0 < result }
-        ensures within { result ≤ length part.now }
-        ensures absorbed { (x : List ℕ) → digest_after R.turned R.value self.new x ≡ digest_after R.turned R.value self.old (take result part.now ++ x) }
+    // Takes in as much of `part` as the block has room for, and gives what is left of it.
+    fn take_in<'a>(&mut self, part: &'a [u8]) -> &'a [u8]
+        ensures less_is_left { 0 < length part.now → length result.now < length part.now }
+        ensures absorbed { (x : List ℕ) → digest_after R.turned R.value self.new (result.now ++ x) ≡ digest_after R.turned R.value self.old (part.now ++ x) }
     {
         let filled = (self.total % 64) as usize;
-        let n = part.len().min(64 - filled);
-        self.block[filled..filled + n].copy_from_slice(&part[0..n]);
-        self.total = self.total.wrapping_add(n as u64);
-        if filled + n == 64 {
+        let (taken, rest) = part.split_at(part.len().min(64 - filled));
+        let end = filled + taken.len();
+        self.block[filled..end].copy_from_slice(taken);
+        self.total = self.total.wrapping_add(taken.len() as u64);
+        if end == 64 {
             self.rounds.turn(&self.block);
         }
-        n
+        rest
     }
 
     // Takes in the padding, so that the hash value is that of the whole message.
@@ -80,7 +80,8 @@ impl<R: Rounds> Chain<R> {
         ensures whole_message { word_bytes (R.value self.new.rounds) ≡ digest_after R.turned R.value self.old [] }
     {
         self.end_message();
-        write_u64(self.total.wrapping_mul(8), &mut self.block, 56);
+        let bits = self.total.wrapping_mul(8);
+        self.block[56..].copy_from_slice(&bits.to_be_bytes());
         self.rounds.turn(&self.block);
     }
 
@@ -130,9 +131,9 @@ impl<R: Rounds + Drop> Hash for Chain<R> {
     }
 
     fn absorb(&mut self, part: &[u8]) {
-        let mut done = 0;
-        while done < part.len() {
-            done += self.take_in(&part[done..]);
+        let mut rest = part;
+        while !rest.is_empty() {
+            rest = self.take_in(rest);
         }
     }
 
@@ -156,5 +157,5 @@ fn mark_end(block: &mut [u8; 64], filled: usize)
     ensures end_marked { block.new ≡ marked filled block.old }
 {
     block[filled] = 0x80;
-    block[filled + 1..64].fill(0);
+    block[filled + 1..].fill(0);
 }

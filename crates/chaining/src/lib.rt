@@ -2,7 +2,9 @@
 #![tactic(auto)]
 
 mod chaining;
+mod hash_value;
 mod words;
 
 pub use chaining::{Chain, Rounds};
-pub use words::{block_word, choice, majority};
+pub use hash_value::{Compression, HashValue};
+pub use words::{block_word, block_words, choice, majority};

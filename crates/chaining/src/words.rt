@@ -1,9 +1,11 @@
 // Words of 32 bits: the functions that the hash functions share, the words of a block, and the bytes of words.
-ghost use Rattle.std.specs.Prelude.{◌≡◌, ◌<◌};
+ghost use Rattle.std.specs.Prelude.{◌≡◌, ◌<◌, map, slice_index_or};
+ghost use Rattle.std.specs.List.{range_with_len};
 ghost use Rattle.octets.specs.Octets.{over};
-ghost use Rattle.chaining.specs.Words.{Ch, Maj, block_word, word_bytes};
+ghost use Rattle.chaining.specs.Words.{Ch, Maj, block_word, word_bytes, added, ◌⊞◌};
 
 use octets::copy_over;
+use std::array;
 
 // At each bit, `y`'s where `x` has 1, else `z`'s.
 pub fn choice(x: u32, y: u32, z: u32) -> u32
@@ -31,20 +33,40 @@ fn word_at(block: &[u8; 64], t: usize) -> u32
     requires { t < 16 }
     ensures most_significant_byte_first { result ≡ block_word block.now t }
 {
-    u32::from_be_bytes([
-        block[4 * t],
-        block[4 * t + 1],
-        block[4 * t + 2],
-        block[4 * t + 3],
-    ])
+    let (words, _) = block.as_chunks::<4>();
+    u32::from_be_bytes(words[t])
+}
+
+// The 16 words of a block.
+pub fn block_words(block: &[u8; 64]) -> [u32; 16]
+    ensures each_of_its_place { result ≡ map (block_word block.now) (range_with_len 0 16) }
+{
+    array::from_fn(
+        |t|
+            ensures { result ≡ block_word block.entry.now t }
+        { block_word(block, t) },
+    )
+}
+
+// The sums of the words of two hash values, place by place.
+pub(crate) fn sums<const N: usize>(v: &[u32; N], u: &[u32; N]) -> [u32; N]
+    ensures place_by_place { result ≡ added N v.now u.now }
+{
+    array::from_fn(
+        |i|
+            requires { i < N }
+            ensures { result ≡ slice_index_or v.entry.now i 0 ⊞ slice_index_or u.entry.now i 0 }
+        { v[i].wrapping_add(u[i]) },
+    )
 }
 
 // Writes the bytes of `words`, each most significant byte first, over the start of `out`, as far as `out` reaches.
 pub(crate) fn write_words(words: &[u32], out: &mut [u8])
     ensures bytes_then_old { out.new ≡ over (word_bytes words.now) out.old }
 {
-    for i in 0..words.len() {
+    // Stays: the place of each word is counted; over `zip(out.chunks_mut(4))` no invariant can name what `out` holds by then.
+    for (i, word) in words.iter().enumerate() {
         let at = out.len().min(4 * i);
-        copy_over(&words[i].to_be_bytes(), &mut out[at..]);
+        copy_over(&word.to_be_bytes(), &mut out[at..]);
     }
 }

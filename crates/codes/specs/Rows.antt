@@ -2,12 +2,12 @@
 --   first_fit  the first row that passes a test, if one does
 --   Name       a code with the characters of its name
 --   name_of    the name that goes with a code, if one does
-use Rattle.std.specs.Prelude.{ℕ, Bool, cond, List, [], ◌∷◌, Some, None, Option, nat_eq}
+use Rattle.std.specs.Prelude.{ℕ, Bool, List, Option, nat_eq}
+use Rattle.std.specs.List.{find}
 use Rattle.std.specs.Option.{option_map}
 
 abbrev pub first_fit : {Row : Type 0} → (Row → Bool) → List Row → Option Row
-first_fit test [] = None
-first_fit test (row ∷ rows) = cond (test row) (Some row) (first_fit test rows)
+first_fit test rows = find test rows
 
 pub record Name : Type 0 where
   pub code : ℕ

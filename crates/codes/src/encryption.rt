@@ -2,7 +2,8 @@
 ghost use Rattle.std.specs.Prelude.{◌≡◌};
 ghost use Rattle.std.specs.Option.{option_map};
 ghost use Rattle.codes.specs.Encryption.{encryption_fits, encryption_row, encryption_name};
-ghost use Rattle.codes.specs.Rows.{first_fit};
+
+use crate::rows::{Row, first_row};
 
 pub const ENCR_NULL: u32 = 0x8001_000b;
 
@@ -22,13 +23,17 @@ pub struct EncryptionRow {
     pub salt: usize,
     pub vector: usize,
     // 0 where the check value is the integrity algorithm's
+    // Stays: the size as the standard gives it; the definitions add it to the other row's.
     pub check: usize,
 }
 
-impl EncryptionRow {
-    fn fits(self, code: u32, key: usize) -> bool
-        ensures whether_it_has_code_and_key { result ≡ encryption_fits code key self }
-    {
+impl Row for EncryptionRow {
+    // a code and a length of the key
+    type Key = (u32, usize);
+
+    ghost goes_with = { λ key row. encryption_fits key.0 key.1 row };
+
+    fn fits(self, (code, key): (u32, usize)) -> bool {
         self.code == code && self.key == key
     }
 }
@@ -80,7 +85,7 @@ const ENCRYPTION_ROWS: [EncryptionRow; 7] = [
 pub fn encryption_row(code: u32, key: usize) -> Option<EncryptionRow>
     ensures first_row_with_code_and_key { result ≡ encryption_row code key }
 {
-    find(&ENCRYPTION_ROWS, code, key)
+    first_row(&ENCRYPTION_ROWS, (code, key))
 }
 
 // The name of a code, if it has one.
@@ -94,15 +99,4 @@ pub fn encryption_name(code: u32) -> Option<&'static str>
         AES_GCM => Some("AES-GCM"),
         _ => None,
     }
-}
-
-fn find(rows: &[EncryptionRow], code: u32, key: usize) -> Option<EncryptionRow>
-    ensures first_row_with_code_and_key { result ≡ first_fit (encryption_fits code key) rows.now }
-{
-    for i in 0..rows.len() {
-        if rows[i].fits(code, key) {
-            return Some(rows[i]);
-        }
-    }
-    None
 }

@@ -2,7 +2,8 @@
 ghost use Rattle.std.specs.Prelude.{◌≡◌};
 ghost use Rattle.std.specs.Option.{option_map};
 ghost use Rattle.codes.specs.Integrity.{integrity_fits, integrity_row, integrity_name};
-ghost use Rattle.codes.specs.Rows.{first_fit};
+
+use crate::rows::{Row, first_row};
 
 pub const AUTH_HMAC_SHA1_96: u32 = 0x8003_0002;
 
@@ -17,14 +18,18 @@ pub const AUTH_COMBINED: u32 = 0xf003_0001;
 #[derive(Clone, Copy)]
 pub struct IntegrityRow {
     pub code: u32,
+    // 0 where the check value is the encryption algorithm's
+    // Stays: the size as the standard gives it; the definitions add it to the other row's.
     pub check: usize,
     pub key: usize,
 }
 
-impl IntegrityRow {
-    fn fits(self, code: u32) -> bool
-        ensures whether_it_has_the_code { result ≡ integrity_fits code self }
-    {
+impl Row for IntegrityRow {
+    type Key = u32;
+
+    ghost goes_with = { integrity_fits };
+
+    fn fits(self, code: u32) -> bool {
         self.code == code
     }
 }
@@ -56,7 +61,7 @@ const INTEGRITY_ROWS: [IntegrityRow; 4] = [
 pub fn integrity_row(code: u32) -> Option<IntegrityRow>
     ensures first_row_with_code { result ≡ integrity_row code }
 {
-    find(&INTEGRITY_ROWS, code)
+    first_row(&INTEGRITY_ROWS, code)
 }
 
 // The name of a code, if it has one.
@@ -70,15 +75,4 @@ pub fn integrity_name(code: u32) -> Option<&'static str>
         AUTH_COMBINED => Some("AUTH_COMBINED"),
         _ => None,
     }
-}
-
-fn find(rows: &[IntegrityRow], code: u32) -> Option<IntegrityRow>
-    ensures first_row_with_code { result ≡ first_fit (integrity_fits code) rows.now }
-{
-    for i in 0..rows.len() {
-        if rows[i].fits(code) {
-            return Some(rows[i]);
-        }
-    }
-    None
 }

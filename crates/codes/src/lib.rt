@@ -3,6 +3,7 @@
 
 mod encryption;
 mod integrity;
+mod rows;
 mod sort;
 
 pub use encryption::{

@@ -34,6 +34,7 @@ impl Sort {
         Sort::by_code(code)
     }
 
+    // Stays: a name that a caller may keep, of which the contract says each letter; `Display` would write it and give nothing.
     pub fn name(self) -> &'static str
         ensures its_name { result.now ≡ sort_name self }
     {

@@ -1,14 +1,13 @@
 // CCM over any block cipher as a suite.
-ghost use Rattle.suite.proofs.Mismatch as mismatch;
+ghost use Rattle.std.specs.Prelude.{◌≡◌};
 ghost use Rattle.combined.specs.CcmSuite.{ccm_suite};
 ghost use Rattle.combined.specs.CcmLaws as ccm;
 
-use crate::keyed::{open_keyed, seal_keyed};
+use crate::keyed::{CHECK, Keyed};
 use crate::nonce::{SALT, VECTOR};
-use crate::scheduled::CHECK;
 use block::{BLOCK, BlockCipher};
 use std::marker::PhantomData;
-use suite::{Fault, Inputs, Sizes, Suite, Triple, WORK, WorkGuard};
+use suite::{Fault, Fitting, Inputs, Sizes, Triple};
 
 // CCM over the block cipher `B`, which serves under one encryption code and one integrity code.
 #[derive_where(Clone, Copy)]
@@ -18,48 +17,53 @@ pub struct Ccm<B> {
     pub cipher: PhantomData<B>,
 }
 
-impl<B: BlockCipher> Suite for Ccm<B> {
-    ghost meaning = { λ s. ccm_suite B.BlockCipher.scheduled B.BlockCipher.expanded B.BlockCipher.forward s.encryption s.integrity };
+impl<B: BlockCipher> Ccm<B> {
+    // Serves under an encryption code and an integrity code.
+    pub fn new(encryption: u32, integrity: u32) -> Ccm<B>
+        ensures its_encryption_code { result.encryption ≡ encryption }
+        ensures its_integrity_code { result.integrity ≡ integrity }
+    {
+        Ccm {
+            encryption,
+            integrity,
+            cipher: PhantomData,
+        }
+    }
+}
+
+impl<B: BlockCipher> Fitting for Ccm<B> {
+    ghost meaning = { λ s. ccm_suite B.scheduled B.expanded B.forward s.encryption s.integrity };
 
     ghost sizes_are_bounded = { λ s.
-        ccm.sizes_are_bounded B.BlockCipher.scheduled B.BlockCipher.expanded B.BlockCipher.forward s.encryption s.integrity
-        B.BlockCipher.keys_are_short };
+        ccm.sizes_are_bounded B.scheduled B.expanded B.forward s.encryption s.integrity
+        B.keys_are_short };
 
     ghost sealing_adds_the_check_value = { λ s.
-        ccm.sealing_adds_the_check_value B.BlockCipher.scheduled B.BlockCipher.expanded B.BlockCipher.forward s.encryption
+        ccm.sealing_adds_the_check_value B.scheduled B.expanded B.forward s.encryption
         s.integrity
-        B.BlockCipher.forward_keeps_length };
+        B.forward_keeps_length };
 
     ghost sealing_gives_bytes = { λ s.
-        ccm.sealing-gives-bytes B.BlockCipher.scheduled B.BlockCipher.expanded B.BlockCipher.forward s.encryption s.integrity
-        B.BlockCipher.forward_keeps_length
-        B.BlockCipher.expanding_gives_bytes
-        B.BlockCipher.forward_gives_bytes };
+        ccm.sealing-gives-bytes B.scheduled B.expanded B.forward s.encryption s.integrity
+        B.forward_keeps_length
+        B.expanding_gives_bytes
+        B.forward_gives_bytes };
 
     ghost opening_undoes_sealing = { λ s.
-        ccm.opening-undoes-sealing B.BlockCipher.scheduled B.BlockCipher.expanded B.BlockCipher.forward s.encryption s.integrity
-        B.BlockCipher.forward_keeps_length };
+        ccm.opening-undoes-sealing B.scheduled B.expanded B.forward s.encryption s.integrity
+        B.forward_keeps_length };
 
     ghost what_opens_was_sealed = { λ s.
-        ccm.what_opens_was_sealed B.BlockCipher.scheduled B.BlockCipher.expanded B.BlockCipher.forward s.encryption s.integrity
-        B.BlockCipher.forward_keeps_length
-        B.BlockCipher.expanding_gives_bytes
-        B.BlockCipher.forward_gives_bytes };
+        ccm.what_opens_was_sealed B.scheduled B.expanded B.forward s.encryption s.integrity
+        B.forward_keeps_length
+        B.expanding_gives_bytes
+        B.forward_gives_bytes };
 
-    ghost mismatch_when_no_text_seals = { λ s.
-        mismatch.mismatch_when_no_text_seals (ccm_suite B.BlockCipher.scheduled B.BlockCipher.expanded B.BlockCipher.forward s.encryption s.integrity)
-        (ccm.opening-undoes-sealing B.BlockCipher.scheduled B.BlockCipher.expanded B.BlockCipher.forward s.encryption s.integrity
-        B.BlockCipher.forward_keeps_length)
-        (ccm.what_opens_was_sealed B.BlockCipher.scheduled B.BlockCipher.expanded B.BlockCipher.forward s.encryption s.integrity
-        B.BlockCipher.forward_keeps_length
-        B.BlockCipher.expanding_gives_bytes
-        B.BlockCipher.forward_gives_bytes) };
-
-    fn sizes(&self, triple: Triple) -> Option<Sizes> {
+    fn sizes_served(&self, triple: Triple) -> Option<Sizes> {
         if triple.encryption != self.encryption || triple.integrity != self.integrity {
             return None;
         }
-        let _schedule = B::schedule_length(triple.key)?;
+        B::schedule_length(triple.key)?;
         Some(Sizes {
             integrity: 0,
             salt: SALT,
@@ -70,35 +74,27 @@ impl<B: BlockCipher> Suite for Ccm<B> {
         })
     }
 
-    fn seal(
+    fn seal_fitting(
         &self,
-        triple: Triple,
+        _triple: Triple,
+        _sizes: Sizes,
         inputs: Inputs<'_>,
         text: usize,
         out: &mut [u8],
         work: &mut [u8],
     ) -> Result<usize, Fault> {
-        let sizes = self.sizes(triple).ok_or(Fault::NotServed)?;
-        if !sizes.fit_sealing(triple, inputs, text, out.len(), work.len()) {
-            return Err(Fault::Size);
-        }
-        let guard = WorkGuard { area: work };
-        seal_keyed::<B>(inputs, text, out, &mut guard.area[0..WORK])
+        Keyed::<B>::new(inputs, work).seal(text, out)
     }
 
-    fn open(
+    fn open_fitting(
         &self,
-        triple: Triple,
+        _triple: Triple,
+        _sizes: Sizes,
         inputs: Inputs<'_>,
         sealed: &[u8],
         out: &mut [u8],
         work: &mut [u8],
     ) -> Result<usize, Fault> {
-        let sizes = self.sizes(triple).ok_or(Fault::NotServed)?;
-        if !sizes.fit_opening(triple, inputs, sealed.len(), out.len(), work.len()) {
-            return Err(Fault::Size);
-        }
-        let guard = WorkGuard { area: work };
-        open_keyed::<B>(inputs, sealed, out, &mut guard.area[0..WORK])
+        Keyed::<B>::new(inputs, work).open(sealed, out)
     }
 }

@@ -1,67 +1,70 @@
-// CCM under a key, on what has the right sizes.
+// CCM under a key, a nonce and a head.
 ghost use Rattle.std.specs.Prelude.{◌≡◌, ◌+◌, ◌-◌, ◌^◌, ◌<◌, ◌≤◌, true, length, take, is_some, Ok};
 ghost use Rattle.std.specs.Option.{ok_or};
 ghost use Rattle.octets.specs.Octets.{over};
+ghost use Rattle.ccm.specs.Ccm.{sealed, opened};
 ghost use Rattle.suite.specs.Meaning.{given, counted, output_after};
 ghost use Rattle.suite.specs.declared.fault.Fault.TheVariants.{Mismatch};
-ghost use Rattle.combined.specs.CcmSuite.{ccm_sealed, ccm_opened};
+ghost use Rattle.combined.specs.CcmSuite.{nonce};
 
-use crate::nonce::{NONCE, write_nonce};
-use crate::scheduled::{open_scheduled, seal_scheduled};
+use crate::faults::suite_fault;
+use crate::nonce::{NONCE, joined};
 use block::BlockCipher;
+use std::marker::PhantomData;
 use suite::{Fault, Inputs};
 
-// Writes the schedule of a key over the start of `work` and answers its length. Each key that is taken has room there.
-fn expand<B: BlockCipher>(key: &[u8], work: &mut [u8]) -> usize
-    requires taken { is_some (B.scheduled (length key.now)) ≡ true }
-    requires work_bytes { 240 ≤ length work.old }
-    ensures within_work { result ≤ length work.new }
-    ensures schedule_at_the_start { take result work.new ≡ B.expanded key.now }
-{
-    B::expand_key(key, work).unwrap_or(0)
+// The bytes of the check value.
+pub(crate) const CHECK: usize = 16;
+
+// What both directions start with: the key's schedule, which stands in the work area, the nonce, and the head.
+#[derive(Drop)]
+pub(crate) struct Keyed<'a, B> {
+    pub schedule: &'a [u8],
+    pub nonce: [u8; NONCE],
+    pub head: &'a [u8],
+    pub cipher: PhantomData<B>,
 }
 
-// Seals the text at the start of `out`. The key's schedule stays in `work`.
-pub(crate) fn seal_keyed<B: BlockCipher>(
-    inputs: Inputs<'_>,
-    text: usize,
-    out: &mut [u8],
-    work: &mut [u8],
-) -> Result<usize, Fault>
-    requires taken { is_some (B.scheduled (length (given inputs).key)) ≡ true }
-    requires salt_size { length (given inputs).salt ≡ 3 }
-    requires vector_size { length (given inputs).vector ≡ 8 }
-    requires short { text < 2 ^ 32 }
-    requires room { text + 16 ≤ length out.old }
-    requires work_bytes { 240 ≤ length work.old }
-    ensures sealed_bytes_counted { result ≡ Ok (length (ccm_sealed B.expanded B.forward (given inputs.entry) (take text out.old))) }
-    ensures sealed_bytes_then_old { out.new ≡ over (ccm_sealed B.expanded B.forward (given inputs.entry) (take text out.old)) out.old }
-{
-    let mut nonce = [0; NONCE];
-    write_nonce(inputs, &mut nonce);
-    let schedule = expand::<B>(inputs.key, work);
-    seal_scheduled::<B>(&work[..schedule], &nonce, inputs.head, text, out)
-}
+impl<'a, B: BlockCipher> Keyed<'a, B> {
+    // Writes the schedule of the key over the start of `work`.
+    pub(crate) fn new(inputs: Inputs<'a>, work: &'a mut [u8]) -> Keyed<'a, B>
+        requires taken { is_some (B.scheduled (length (given inputs).key)) ≡ true }
+        requires salt_size { length (given inputs).salt ≡ 3 }
+        requires vector_size { length (given inputs).vector ≡ 8 }
+        requires work_bytes { 240 ≤ length work.old }
+        ensures schedule_of_the_key { result.schedule.now ≡ B.expanded (given inputs.entry).key }
+        ensures salt_then_vector { result.nonce ≡ nonce (given inputs.entry) }
+        ensures same_head { result.head.now ≡ (given inputs.entry).head }
+    {
+        let schedule = B::expand_key(inputs.key, work).unwrap();
+        Keyed {
+            schedule: &work[..schedule],
+            nonce: joined(inputs.salt, inputs.vector),
+            head: inputs.head,
+            cipher: PhantomData,
+        }
+    }
 
-// Opens `sealed` into the start of `out`. The key's schedule stays in `work`.
-pub(crate) fn open_keyed<B: BlockCipher>(
-    inputs: Inputs<'_>,
-    sealed: &[u8],
-    out: &mut [u8],
-    work: &mut [u8],
-) -> Result<usize, Fault>
-    requires taken { is_some (B.scheduled (length (given inputs).key)) ≡ true }
-    requires salt_size { length (given inputs).salt ≡ 3 }
-    requires vector_size { length (given inputs).vector ≡ 8 }
-    requires check_size { 16 ≤ length sealed.now }
-    requires short { length sealed.now - 16 < 2 ^ 32 }
-    requires room { length sealed.now - 16 ≤ length out.old }
-    requires work_bytes { 240 ≤ length work.old }
-    ensures text_counted { result ≡ counted (ok_or (ccm_opened B.expanded B.forward (given inputs.entry) sealed.now) Mismatch) }
-    ensures text_or_zeros_then_old { out.new ≡ output_after (ok_or (ccm_opened B.expanded B.forward (given inputs.entry) sealed.now) Mismatch) (length sealed.now - 16) out.old }
-{
-    let mut nonce = [0; NONCE];
-    write_nonce(inputs, &mut nonce);
-    let schedule = expand::<B>(inputs.key, work);
-    open_scheduled::<B>(&work[..schedule], &nonce, inputs.head, sealed, out)
+    // Seals the text at the start of `out`.
+    pub(crate) fn seal(&self, text: usize, out: &mut [u8]) -> Result<usize, Fault>
+        requires short { text < 2 ^ 32 }
+        requires room { text + 16 ≤ length out.old }
+        ensures sealed_bytes_counted { result ≡ Ok (length (sealed (B.forward self.now.schedule.now) 16 self.now.nonce self.now.head.now (take text out.old))) }
+        ensures sealed_bytes_then_old { out.new ≡ over (sealed (B.forward self.now.schedule.now) 16 self.now.nonce self.now.head.now (take text out.old)) out.old }
+    {
+        let answer = ccm::seal::<B>(self.schedule, &self.nonce, self.head, CHECK, text, out);
+        answer.map_err(suite_fault)
+    }
+
+    // Opens `bytes` into the start of `out`.
+    pub(crate) fn open(&self, bytes: &[u8], out: &mut [u8]) -> Result<usize, Fault>
+        requires check_size { 16 ≤ length bytes.now }
+        requires short { length bytes.now - 16 < 2 ^ 32 }
+        requires room { length bytes.now - 16 ≤ length out.old }
+        ensures text_counted { result ≡ counted (ok_or (opened (B.forward self.now.schedule.now) 16 self.now.nonce self.now.head.now bytes.now) Mismatch) }
+        ensures text_or_zeros_then_old { out.new ≡ output_after (ok_or (opened (B.forward self.now.schedule.now) 16 self.now.nonce self.now.head.now bytes.now) Mismatch) (length bytes.now - 16) out.old }
+    {
+        let answer = ccm::open::<B>(self.schedule, &self.nonce, self.head, CHECK, bytes, out);
+        answer.map_err(suite_fault)
+    }
 }

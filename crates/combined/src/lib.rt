@@ -5,6 +5,5 @@ mod ccm_suite;
 mod faults;
 mod keyed;
 mod nonce;
-mod scheduled;
 
 pub use ccm_suite::Ccm;

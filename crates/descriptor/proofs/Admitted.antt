@@ -1,5 +1,5 @@
 -- What the tests before making say, and what making comes to after them. Assumes nothing.
-use Rattle.std.proofs.Common.{◌≡◌, ℕ, Bool, not, ◌&&◌, eqb, ltb, List, length, Some, None, Ok, Err, Option, ap, ◌∙◌, arith}
+use Rattle.std.proofs.Common.{◌≡◌, ℕ, Bool, not, ◌&&◌, eqb, ltb, List, length, Some, Ok, ap, ◌∙◌}
 use Rattle.std.proofs.lemmas.Bool.{and_parts, or_parts, eqb-true, ltb-false, not-false}
 use Rattle.layout.specs.Refusals.{first_fit, judged}
 use Rattle.layout.specs.declared.Form.{Form}
@@ -7,7 +7,6 @@ use Rattle.layout.proofs.Refusals.{passed_from_ok, judged-passed}
 use Rattle.suite.specs.Meaning.{Meaning}
 use Rattle.suite.specs.declared.Sizes.{Sizes}
 use Rattle.descriptor.specs.Making.{Makeable, make_tests, keys_fit, made_bytes, making, making_by}
-use Rattle.descriptor.specs.declared.fault.Fault.{Fault}
 use Rattle.descriptor.specs.declared.making.Label.{Label}
 use Rattle.descriptor.specs.declared.protection.Protection.{Protection}
 
@@ -31,18 +30,7 @@ makeable p form z s n out work e =
       room = ltb-false _ _ passed.1.1.1.0;
     }
 
-same_refusal : {X Y : Type 0} (o : Option Fault) (x : X) (y : Y) (f : Fault) → judged o x ≡ Err f → judged o y ≡ Err f
-same_refusal None x y f e = let z : ◌≡◌ {A = ℕ} 0 1 = cc in absurd (omega arith)
-same_refusal (Some h) x y f e = let same : h ≡ f = cc in ap Err same
-
 module _ (m : Meaning) (p : Protection) (l : Label) (vector xs out work : List ℕ) (z : Sizes) (served : m.serves p.triple ≡ Some z) where
-  pub making-refused : (f : Fault) → judged (first_fit (make_tests p l.form z (length vector) (length xs) (length out) (length work))) (tt {0}) ≡ Err f
-      → making m p l vector xs out work ≡ Err f
-  making-refused f e =
-      ap (making_by m p l vector xs out work) served
-      ∙ same_refusal (first_fit (make_tests p l.form z (length vector) (length xs) (length out) (length work))) (tt {0})
-      (made_bytes m p l vector xs out work z) f e
-
   pub making_made : judged (first_fit (make_tests p l.form z (length vector) (length xs) (length out) (length work))) (tt {0}) ≡ Ok (tt {0})
       → making m p l vector xs out work ≡ Ok (made_bytes m p l vector xs out work z)
   making_made e =

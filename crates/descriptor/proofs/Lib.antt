@@ -1,10 +1,10 @@
 pub mod Admitted
+pub mod Asked
 pub mod Fronts
 pub mod Laid
 pub mod Laying
 pub mod OpeningLaw
 pub mod OpeningSteps
-pub mod Placing
 pub mod RoundTrip
 pub mod SealingText
 pub mod Texts

@@ -1,16 +1,14 @@
 -- The steps of opening a descriptor, over plain lists. Assumes nothing.
-use Rattle.std.proofs.Common.{◌≡◌, ℕ, ◌-◌, ◌<◌, ◌≤◌, Bool, true, false, cond, not, ltb, List, ◌++◌, length, take, drop, Some, None, Ok, Err, Option, Result, sym, refl, ap, ◌∙◌, arith}
+use Rattle.std.proofs.Common.{◌≡◌, ℕ, ◌-◌, ◌<◌, ◌≤◌, Bool, true, false, cond, List, ◌++◌, length, take, drop, Some, None, Ok, Err, Option, Result, sym, refl, ap, ◌∙◌, arith}
 use borrow.Rule.Slice.PartMut.{put_mid}
 use Rattle.std.specs.List.{between}
 use Rattle.std.specs.Option.{ok_or}
 use Rattle.std.proofs.ByRecursion.{All-drop, All-take}
-use Rattle.std.proofs.lemmas.List.{append-nil, length-append, length-take-le, length-drop, take-append-drop, length-replicate}
+use Rattle.std.proofs.lemmas.List.{length-append, length-take-le, length-drop, length-replicate}
 use Rattle.octets.specs.Octets.{Octets, over, wiped, zeros}
-use Rattle.octets.proofs.Octets.{over_all, over-append, over-fits, over-over, wiped_all, wiped-fits}
+use Rattle.octets.proofs.Octets.{over_all, over-append, over-over, wiped_all, wiped-fits}
 use Rattle.padding.specs.Padding.{data_length, unpadded, cut}
-use Rattle.layout.specs.Frame.{InARow, parted}
-use Rattle.layout.specs.declared.Fault.{Fault as LayoutFault}
-use Rattle.layout.specs.declared.Fault.TheVariants.{Length}
+use Rattle.layout.specs.Frame.{InARow}
 use Rattle.layout.specs.declared.Frame.{Frame}
 use Rattle.layout.specs.declared.Parts.{Parts}
 use Rattle.suite.specs.Fits.{Lengths, Openable}
@@ -18,29 +16,16 @@ use Rattle.suite.specs.Laws.{Served, Text, SealingAddsTheCheckValue, WhatOpensWa
 use Rattle.suite.specs.Meaning.{Given, Meaning, counted, opening_fits}
 use Rattle.suite.specs.Meaning as suite
 use Rattle.suite.specs.declared.Fault.{Fault as SuiteFault}
-use Rattle.suite.specs.declared.Fault.TheVariants.{NotServed, Size, Mismatch}
+use Rattle.suite.specs.declared.Fault.TheVariants.{Size, Mismatch}
 use Rattle.suite.specs.declared.Sizes.{Sizes}
 use Rattle.suite.specs.declared.Triple.{Triple}
 use Rattle.suite.proofs.Lengths.{openable, lengths-fit, text-fits}
-use Rattle.descriptor.specs.Opening.{refused, answer, concluded, data_after, frame_opening, frame_opening_by, parts_opening, unpadding, work_after}
+use Rattle.descriptor.specs.Opening.{data_after, unpadding, work_after}
 use Rattle.descriptor.specs.Text.{data_of}
-use Rattle.descriptor.specs.declared.fault.Fault.TheVariants.{Layout, Suite}
-use Rattle.descriptor.specs.declared.protection.Protection.{Protection}
 
--- the text is the data where the suite does not encrypt, else what unpadding leaves
-pub text_in_clear : (z : Sizes) (text : List ℕ) → not z.encrypts ≡ true → data_of z text ≡ Some text
-text_in_clear z text e = by z.encrypts e
-  where
-    by : (b : Bool) → not b ≡ true → cond b (unpadded text) (Some text) ≡ Some text
-    by true h = absurd (let n : ◌≡◌ {A = ℕ} 0 1 = cc in omega arith)
-    by false h = refl
-
-pub text-padded : (z : Sizes) (text : List ℕ) (n : Option ℕ) → not z.encrypts ≡ false → n ≡ data_length text → data_of z text ≡ cut n text
-text-padded z text n e is = by z.encrypts e ∙ ap (λ k. cut k text) (sym is)
-  where
-    by : (b : Bool) → not b ≡ false → cond b (unpadded text) (Some text) ≡ unpadded text
-    by true h = refl
-    by false h = absurd (let n : ◌≡◌ {A = ℕ} 0 1 = cc in omega arith)
+-- where the suite encrypts, the data are what unpadding leaves
+pub text-padded : (z : Sizes) (text : List ℕ) (n : Option ℕ) → z.encrypts ≡ true → n ≡ data_length text → data_of z text ≡ cut n text
+text-padded z text n e is = ap (λ b. cond b (unpadded text) (Some text)) e ∙ ap (λ k. cut k text) (sym is)
 
 -- the first n bytes kept and zeros behind them up to t
 pub front_and_zeros : (n t : ℕ) (part buffer : List ℕ) → n ≤ t → t ≤ length buffer → part ≡ wiped (t - n) (take (t - n) (drop n buffer))
@@ -56,37 +41,6 @@ front_and_zeros n t part buffer low high is =
     ap (λ w. take n buffer ++ (w ++ drop (t - n) (drop n buffer))) zero
     ∙ sym (over-append (take n buffer) (zeros (t - n)) buffer ∙ (ap (λ w. w ++ wiped (t - n) (drop (length (take n buffer)) buffer)) kept
     ∙ ap (λ w. take n buffer ++ w) rest))
-
--- nothing altered where all of the text is data
-pub text-kept : (t : ℕ) (buffer : List ℕ) → t ≤ length buffer → over (take t buffer ++ zeros (t - length (take t buffer))) buffer ≡ buffer
-text-kept t buffer high =
-    let n : length (take t buffer) ≡ t = length-take-le t buffer high in
-    let none : t - length (take t buffer) ≡ 0 = omega arith in
-    ap (λ k. over (take t buffer ++ zeros k) buffer) none
-    ∙ (ap (λ w. over w buffer) (append-nil (take t buffer))
-    ∙ (over-fits (take t buffer) buffer (omega arith) ∙ (ap (λ k. take t buffer ++ drop k buffer) n ∙ take-append-drop t buffer)))
-
--- what the suite refused, or found to mismatch
-module _ (z : Sizes) (e : ℕ) where
-  pub failed_answer : (o : Result (List ℕ) SuiteFault) (f : SuiteFault) → counted o ≡ Err f → Err (Suite f) ≡ answer (concluded z e o)
-  failed_answer (Ok x) f is = absurd (let n : ◌≡◌ {A = ℕ} 0 1 = cc in omega arith)
-  failed_answer (Err NotServed) f is = cc
-  failed_answer (Err Size) f is = cc
-  failed_answer (Err Mismatch) f is = cc
-
-  pub failed_data : (o : Result (List ℕ) SuiteFault) (f : SuiteFault) (buffer : List ℕ) → counted o ≡ Err f
-      → suite.output_after o e buffer ≡ data_after (concluded z e o) buffer
-  failed_data (Ok x) f buffer is = absurd (let n : ◌≡◌ {A = ℕ} 0 1 = cc in omega arith)
-  failed_data (Err NotServed) f buffer is = refl
-  failed_data (Err Size) f buffer is = refl
-  failed_data (Err Mismatch) f buffer is = refl
-
-  pub failed_work : (o : Result (List ℕ) SuiteFault) (f : SuiteFault) (work : List ℕ) → counted o ≡ Err f
-      → suite.work_after o work ≡ work_after (concluded z e o) work
-  failed_work (Ok x) f work is = absurd (let n : ◌≡◌ {A = ℕ} 0 1 = cc in omega arith)
-  failed_work (Err NotServed) f work is = refl
-  failed_work (Err Size) f work is = refl
-  failed_work (Err Mismatch) f work is = refl
 
 -- data written over the text that stood there
 pub written_again : (o : Option (List ℕ)) (e : ℕ) (text buffer : List ℕ) → length text ≤ e
@@ -189,20 +143,3 @@ length-protected f s c at list row within =
     let long : length (between at.protected at.end list) ≡ at.end - at.protected =
     length-take-le (at.end - at.protected) (drop at.protected list) (omega (arith, length-drop at.protected list)) in
     omega arith
-
--- what opening a frame comes to once its sizes are told, it ends in the list, and it is cut in parts
-module _ (m : Meaning) (p : Protection) (list buffer work : List ℕ) (z : Sizes) (f : Frame) where
-  pub frame_unserved : m.serves p.triple ≡ None → refused (Suite NotServed) ≡ frame_opening m p list buffer work f
-  frame_unserved told = ap (λ o. frame_opening_by m p list buffer work o f) (sym told)
-
-  pub frame-served : m.serves p.triple ≡ Some z → (b : Bool) → ltb (length list) f.end ≡ b
-      → cond b (refused (Layout Length)) (parts_opening m p list buffer work z f (parted f z.vector z.check z.unit z.encrypts))
-      ≡ frame_opening m p list buffer work f
-  frame-served told b e =
-      sym (ap (λ o. frame_opening_by m p list buffer work o f) told
-      ∙ ap (λ t. cond t (refused (Layout Length)) (parts_opening m p list buffer work z f (parted f z.vector z.check z.unit z.encrypts))) e)
-
-  pub frame-parted : m.serves p.triple ≡ Some z → ltb (length list) f.end ≡ false → (r : Result Parts LayoutFault)
-      → r ≡ parted f z.vector z.check z.unit z.encrypts
-      → parts_opening m p list buffer work z f r ≡ frame_opening m p list buffer work f
-  frame-parted told e r is = ap (parts_opening m p list buffer work z f) is ∙ frame-served told false e

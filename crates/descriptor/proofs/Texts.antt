@@ -1,13 +1,10 @@
 -- The text of the data, written in its place. Assumes nothing.
-use Rattle.std.proofs.Common.{◌≡◌, ℕ, ◌+◌, ◌%◌, ◌≤◌, Bool, true, false, cond, List, ◌++◌, length, take, drop, sym, refl, ap, ◌∙◌, subst, arith}
+use Rattle.std.proofs.Common.{◌≡◌, ℕ, ◌%◌, ◌≤◌, Bool, true, false, cond, List, length, sym, refl, ap, ◌∙◌, subst, arith}
 use native.Mathlib.Nat.{mod-one}
-use Rattle.octets.specs.Octets.{Octets, over}
-use Rattle.octets.proofs.Octets.{over-fits, over_all, length_over}
-use Rattle.padding.specs.Padding.{padded, trailed, trailer, least_pad, padded_length}
+use Rattle.octets.specs.Octets.{Octets}
+use Rattle.padding.specs.Padding.{padded, least_pad, padded_length}
 use Rattle.padding.proofs.Laws.{length-padded, octets-padded}
 use Rattle.padding.proofs.Least.{least_pad_at_most_15, padded_length-multiple}
-use Rattle.padding.proofs.Trailer.{trailed-fits}
-use Rattle.std.proofs.lemmas.List.{take_at}
 use Rattle.suite.specs.Laws.{Bounded}
 use Rattle.suite.specs.declared.Sizes.{Sizes}
 use Rattle.suite.specs.declared.Triple.{Triple}
@@ -25,23 +22,6 @@ module _ (z : Sizes) (xs : List ℕ) where
 
   pub length_text_in_clear : z.encrypts ≡ false → text_length z (length xs) ≡ length xs
   length_text_in_clear e = ap (λ b. cond b (padded_length z.unit (length xs)) (length xs)) e
-
-  -- data, then trailer, over a buffer of the text's length
-  pub trailer_behind_data : (text a b : List ℕ) → z.encrypts ≡ true → z.unit ≤ 16 → length text ≡ text_length z (length xs)
-      → a ≡ over xs text → b ≡ trailed (length xs) a → b ≡ text_of z xs
-  trailer_behind_data text a b e u long copied done =
-      let p = least_pad z.unit (length xs) in
-      let few : p ≤ 15 = least_pad_at_most_15 z.unit (length xs) u in
-      let whole : length text ≡ length xs + p + 2 = long ∙ length-padded-text e in
-      let a-long : length a ≡ length xs + p + 2 = ap length copied ∙ (length_over xs text ∙ whole) in
-      let front : take (length xs) a ≡ xs =
-      ap (take (length xs)) (copied ∙ over-fits xs text (omega arith)) ∙ take_at xs (drop (length xs) text) (length xs) refl in
-      done
-      ∙ (trailed-fits (length xs) p a a-long (omega arith) ∙ (ap (λ w. w ++ trailer p) front ∙ sym (text-padded e)))
-
-  pub data_alone : (text a : List ℕ) → z.encrypts ≡ false → length text ≡ text_length z (length xs) → a ≡ over xs text → a ≡ text_of z xs
-  data_alone text a e long copied =
-      copied ∙ (over_all xs text (sym (long ∙ length_text_in_clear e)) ∙ sym (text_in_clear e))
 
   length_text_by : (b : Bool) → z.encrypts ≡ b → length (text_of z xs) ≡ text_length z (length xs)
   length_text_by true e = ap length (text-padded e) ∙ (length-padded (least_pad z.unit (length xs)) xs ∙ sym (length-padded-text e))

@@ -1,6 +1,7 @@
 -- Opening a descriptor.
 --   Verdict           what opening comes to: refused with nothing altered; spoiled, with zeros where the text would stand; opened
 --   concluded ..      what the suite's answer comes to
+--   text_opening ..   what opening sealed bytes comes to, under a head and a vector
 --   frame_opening ..  what opening the descriptor of a frame comes to; refused before the suite opens, in this order: the triple is not
 --                     served (Suite NotServed), the frame ends after the list does (Layout Length), its parts do not fit (Layout Parts)
 --   opening ..        the same for a descriptor at a place of the list
@@ -42,6 +43,10 @@ concluded z e (Ok text) = unpadding (data_of z text) e
 concluded z e (Err NotServed) = refused (Suite NotServed)
 concluded z e (Err Size) = refused (Suite Size)
 concluded z e (Err Mismatch) = spoiled (Suite Mismatch) e
+
+abbrev pub text_opening : Meaning → Protection → Sizes → List ℕ → List ℕ → List ℕ → List ℕ → List ℕ → Verdict
+text_opening m p z head vector y buffer work =
+    concluded z (length y - z.check) (suite.opening m p.triple (given_to p head vector) y buffer work)
 
 module _ (m : Meaning) (p : Protection) (list buffer work : List ℕ) where
   -- the head is SAI and SQN as they stand in the list; the check value stands at the end of what is sealed

@@ -5,6 +5,7 @@ mod fault;
 mod making;
 mod opening;
 mod protection;
+mod served;
 
 pub use fault::Fault;
 pub use making::{LONGEST, Label, make};

@@ -1,5 +1,8 @@
 // What a descriptor is protected under.
-use suite::Triple;
+ghost use Rattle.std.specs.Prelude.{◌≡◌};
+ghost use Rattle.suite.specs.Meaning.{given};
+
+use suite::{Inputs, Triple};
 
 // A triple with the keys of one direction of an SA.
 #[derive(Clone, Copy)]
@@ -10,4 +13,21 @@ pub struct Protection<'a> {
     pub salt: &'a [u8],
     // the integrity key
     pub integrity: &'a [u8],
+}
+
+impl<'a> Protection<'a> {
+    ghost use Rattle.descriptor.specs.Text.{given_to};
+
+    // What the suite takes besides the text.
+    pub(crate) fn inputs(self, head: &'a [u8], vector: &'a [u8]) -> Inputs<'a>
+        ensures keys_head_and_vector { given result ≡ given_to self.entry head.now vector.now }
+    {
+        Inputs {
+            key: self.key,
+            salt: self.salt,
+            integrity: self.integrity,
+            head,
+            vector,
+        }
+    }
 }

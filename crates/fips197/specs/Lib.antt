@@ -1,3 +1,4 @@
 pub mod Field
 pub mod Boxes
 pub mod State
+pub mod Calls

@@ -1,6 +1,6 @@
 // The inverse S-box.
-ghost use Rattle.std.specs.Prelude.{◌≡◌, slice_index};
-ghost use Rattle.fips197.specs.Boxes.{s_box, inv_s_box_table, inv_s_box};
+ghost use Rattle.std.specs.Prelude.{◌≡◌};
+ghost use Rattle.fips197.specs.Boxes.{s_box, inv_s_box};
 
 // The inverse S-box, in the order of the bytes that it replaces.
 const INV_S_BOX: [u8; 256] = [
@@ -22,17 +22,11 @@ const INV_S_BOX: [u8; 256] = [
     0x17, 0x2b, 0x04, 0x7e, 0xba, 0x77, 0xd6, 0x26, 0xe1, 0x69, 0x14, 0x63, 0x55, 0x21, 0x0c, 0x7d,
 ];
 
-// The entry of the inverse S-box for a byte.
-fn inv_s_box_entry(x: u8) -> u8
-    ensures of_the_table { result ≡ slice_index inv_s_box_table x }
-{
-    INV_S_BOX[x as usize]
-}
-
 // The byte that the inverse S-box has in place of another.
+#[tactic(auto, unfolding(crate::specs::Boxes::inv_s_box))]
 pub(crate) fn inv_sub_byte(x: u8) -> u8
     ensures of_the_table { result ≡ inv_s_box x }
     ensures undoes_the_box { s_box result ≡ x }
 {
-    inv_s_box_entry(x)
+    INV_S_BOX[x as usize]
 }

@@ -1,7 +1,7 @@
 // The S-box.
-ghost use Rattle.std.specs.Prelude.{◌≡◌, if◌then◌else◌, nat_eq, slice_index};
+ghost use Rattle.std.specs.Prelude.{◌≡◌, if◌then◌else◌, nat_eq};
 ghost use Rattle.fips197.specs.Field.{◌•◌, inverse};
-ghost use Rattle.fips197.specs.Boxes.{affine, s_box_table, s_box};
+ghost use Rattle.fips197.specs.Boxes.{affine, s_box};
 
 // The S-box, in the order of the bytes that it replaces.
 const S_BOX: [u8; 256] = [
@@ -23,18 +23,12 @@ const S_BOX: [u8; 256] = [
     0x8c, 0xa1, 0x89, 0x0d, 0xbf, 0xe6, 0x42, 0x68, 0x41, 0x99, 0x2d, 0x0f, 0xb0, 0x54, 0xbb, 0x16,
 ];
 
-// The entry of the S-box for a byte.
-fn s_box_entry(x: u8) -> u8
-    ensures of_the_table { result ≡ slice_index s_box_table x }
-{
-    S_BOX[x as usize]
-}
-
 // The byte that the S-box has in place of another.
+#[tactic(auto, using(crate::proofs::SBoxes::s_box_rule, crate::proofs::SBoxes::inverse_rule), unfolding(crate::specs::Boxes::s_box))]
 pub fn sub_byte(x: u8) -> u8
     ensures of_the_table { result ≡ s_box x }
     ensures inverse_then_affine { result ≡ affine (inverse x) }
     ensures times_inverse_is_one { x • inverse x ≡ (if nat_eq x 0 then 0 else 1) }
 {
-    s_box_entry(x)
+    S_BOX[x as usize]
 }

@@ -1,5 +1,5 @@
 -- The key block: what is written over a block of zeros, and a pad that is put on and taken off.
-use Rattle.std.proofs.Common.{◌≡◌, ℕ, ◌-◌, ◌<◌, ◌≤◌, List, ◌++◌, length, ap, ◌∙◌, map-id}
+use Rattle.std.proofs.Common.{◌≡◌, ℕ, ◌-◌, ◌<◌, ◌≤◌, List, ◌++◌, length, drop, ap, ◌∙◌, map-id}
 use mathlib.Core.List.{map-map}
 use lib.Bits.{bit_xor, xor_assoc, xor_self, xor_zero_r}
 use Rattle.std.proofs.lemmas.List.{drop-replicate, length-replicate}
@@ -12,11 +12,13 @@ over_zeros : (xs : List ℕ) (n : ℕ) → length xs ≤ n → over xs (zeros n)
 over_zeros xs n h =
     over-fits xs (zeros n) (simp length-replicate h) ∙ ap (λ zs. xs ++ zs) (drop-replicate (length xs) n 0)
 
--- the key that fits, over a block of zeros
+-- the key that fits, copied over a block of zeros
 pub short-key :
-    (digest : List ℕ → List ℕ) (block : ℕ) (key : List ℕ) → length key ≤ block → over key (zeros block) ≡ key_block digest block key
+    (digest : List ℕ → List ℕ) (block : ℕ) (key copied room : List ℕ) → length key ≤ block → copied ≡ key → room ≡ zeros block →
+    copied ++ drop (length key) room ≡ key_block digest block key
 unfolding key_block
-short-key digest block key h = rw (le-leb (length key) block h) (over_zeros key block h)
+short-key digest block key copied room h is cleared =
+    rw (le-leb (length key) block h) (ap (λ ks. ks ++ drop (length key) room) is ∙ ap (λ zs. key ++ drop (length key) zs) cleared ∙ ap (λ zs. key ++ zs) (drop-replicate (length key) block 0))
 
 -- the digest of a longer one
 pub long-key :

@@ -4,7 +4,6 @@ ghost use Rattle.octets.specs.Octets.{over, zeros};
 ghost use Rattle.hmac.specs.Hmac.{ipad, opad, padded, key_block, hmac, mac_after};
 
 use crate::hash::Hash;
-use octets::{copy_over, zero_first};
 
 // The longest block, and so the longest digest, of a hash.
 const LONGEST_BLOCK: usize = 128;
@@ -26,9 +25,10 @@ impl<H: Hash> Hmac<H> {
     pub fn new(key: &[u8]) -> Self
         ensures keyed { (x : List ℕ) → mac_after H.after H.size result x ≡ hmac H.digest H.block key.now x }
     {
+        // Stays: a fixed room and a length beside it, since an array's length cannot be a member of the hash, and there is no heap.
         let mut room = [0; LONGEST_BLOCK];
         let n = H::block_size();
-        begun_in(key, &mut room[0..n])
+        begun_in(key, &mut room[..n])
     }
 
     // Absorbs `part` of the message after what came before.
@@ -43,9 +43,10 @@ impl<H: Hash> Hmac<H> {
         ensures check_value_over_the_start { out.new ≡ over (mac_after H.after H.size self []) out.old }
     {
         let Hmac { inner, mut outer } = self;
+        // Stays: a fixed room and a length beside it, as in `new`.
         let mut room = [0; LONGEST_BLOCK];
         let n = H::digest_size();
-        pass_on(inner, &mut outer, &mut room[0..n]);
+        pass_on(inner, &mut outer, &mut room[..n]);
         outer.finish(out);
     }
 }
@@ -60,7 +61,7 @@ fn begun_in<H: Hash>(key: &[u8], room: &mut [u8]) -> Hmac<H>
     store_key::<H>(key, room);
     let inner = begun(room, INNER_PAD);
     let outer = begun(room, OUTER_PAD);
-    wipe(room);
+    room.fill(0);
     Hmac { inner, outer }
 }
 
@@ -69,16 +70,16 @@ fn store_key<H: Hash>(key: &[u8], room: &mut [u8])
     requires a_block { length room.old ≡ H.block }
     ensures the_key_block { room.new ≡ key_block H.digest H.block key.now }
 {
-    wipe(room);
+    room.fill(0);
     if key.len() <= room.len() {
-        copy_over(key, room);
+        room[..key.len()].copy_from_slice(key);
     } else {
         digest_over::<H>(key, room);
     }
 }
 
-// The digest of `message`, over the start of `out`.
-fn digest_over<H: Hash>(message: &[u8], out: &mut [u8])
+// Writes the digest of `message` over the start of `out`, as far as `out` reaches.
+pub fn digest_over<H: Hash>(message: &[u8], out: &mut [u8])
     ensures digest_over_the_start { out.new ≡ over (H.digest message.now) out.old }
 {
     let mut hash = H::new();
@@ -112,14 +113,7 @@ fn pass_on<H: Hash>(inner: H, outer: &mut H, room: &mut [u8])
     requires a_digest { length room.old ≡ H.size }
     ensures digest_absorbed { (x : List ℕ) → H.after outer.new x ≡ H.after outer.old (over (H.after inner []) (zeros H.size) ++ x) }
 {
-    wipe(room);
+    room.fill(0);
     inner.finish(room);
     outer.absorb(room);
-}
-
-// Zeroes all of `room`.
-fn wipe(room: &mut [u8])
-    ensures zeroed { room.new ≡ zeros (length room.old) }
-{
-    zero_first(room.len(), room);
 }

@@ -5,4 +5,4 @@ mod hash;
 mod hmac;
 
 pub use hash::Hash;
-pub use hmac::Hmac;
+pub use hmac::{Hmac, digest_over};

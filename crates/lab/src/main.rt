@@ -1,13 +1,10 @@
-// The workbench: makes five bytes into a descriptor, opens it, damages it, and tells each step in words beside its bytes.
+// The program: makes five bytes into a descriptor, opens it, damages it, and tells each step in words beside its bytes.
 #![tactic(auto)]
 
-mod fields;
-mod hex;
 mod job;
-mod words;
 
-use job::tell_form;
-use layout::Form;
+use job::{LESSONS, tell_form};
+use suites::null_hmac_sha2_256_128;
 
 // The job in both forms.
 fn tell_job(rt: &HostRuntime) -> anyhow::Result<()> {
@@ -15,8 +12,10 @@ fn tell_job(rt: &HostRuntime) -> anyhow::Result<()> {
     rt.println(
         "Buffers are filled with EE first, so that every byte that a call leaves alone shows.",
     )?;
-    tell_form(rt, "Long form", Form::Long)?;
-    tell_form(rt, "Short form", Form::Short)?;
+    let suite = null_hmac_sha2_256_128();
+    for lesson in LESSONS {
+        tell_form(rt, &suite, lesson)?;
+    }
     Ok(())
 }
 

@@ -4,7 +4,7 @@ ghost use Rattle.layout.specs.Frame.{framed, parted, reach, InARow, Within};
 
 use crate::fault::Fault;
 use crate::form::{Form, HEAD_LEN, Span};
-use octets::{read_u16, read_u32, read_u64};
+use octets::Number;
 
 #[derive(Clone, Copy, Drop)]
 pub struct Frame {
@@ -23,7 +23,7 @@ fn descriptor_len(list: &[u8], place: usize, span: Span) -> usize
     ensures { result ≡ reach list.now place span }
 {
     match span {
-        Span::Long => 2 + read_u16(list, place).unwrap() as usize,
+        Span::Long => 2 + u16::read(list, place).unwrap() as usize,
         Span::Short(len) => len,
     }
 }
@@ -48,8 +48,8 @@ pub fn read_frame(list: &[u8], place: usize, span: Span) -> Result<Frame, Fault>
         form,
         head,
         end: place + len,
-        sai: read_u32(list, head).unwrap(),
-        sqn: read_u64(list, head + 4).unwrap(),
+        sai: u32::read(list, head).unwrap(),
+        sqn: u64::read(list, head + 4).unwrap(),
     })
 }
 
@@ -64,6 +64,7 @@ pub struct Parts {
 
 impl Frame {
     // The parts of the descriptor, under a suite with these sizes. A unit of 0 is taken as 1.
+    // Stays: the definitions speak of both, and a text in clear has a unit too, which an `Option` of it would not tell.
     pub fn parts(
         &self,
         vector_len: usize,

@@ -1,20 +1,11 @@
-// What the workbench makes and opens: a descriptor under each suite of the standard bank.
+// What the program makes and opens: a descriptor under each suite of the standard bank.
 use descriptor::Protection;
 use layout::Form;
 use suite::Triple;
 use suites::{
     AES_CBC, AES_CCM, AUTH_COMBINED, AUTH_HMAC_SHA1_96, AUTH_HMAC_SHA2_256_128, ENCR_NULL,
 };
-
-// One descriptor to make: its form, its protection, its vector and its data.
-#[derive(Clone, Copy)]
-pub(crate) struct Lesson {
-    pub title: &'static str,
-    pub form: Form,
-    pub protection: Protection<'static>,
-    pub vector: &'static [u8],
-    pub plain: &'static [u8],
-}
+use workbench::Lesson;
 
 // Keys for the lesson, the same in every run.
 const KEY_16: &[u8] = b"a key of 16 byte";

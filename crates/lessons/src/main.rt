@@ -1,12 +1,9 @@
-// The workbench: under each suite of the standard bank, makes data into a descriptor, opens it, damages it, and tells each
+// The program: under each suite of the standard bank, makes data into a descriptor, opens it, damages it, and tells each
 // step in words beside its bytes.
 #![tactic(auto)]
 
-mod fields;
-mod hex;
 mod job;
 mod lessons;
-mod words;
 
 use job::tell_lesson;
 use lessons::LESSONS;

@@ -1,14 +1,13 @@
 -- Big-endian numbers and their bytes. That bytes xs write a number below 256 ^ length xs is std's `number_lt 256 xs`.
-use Rattle.std.proofs.Common.{◌≡◌, ℕ, zero, suc, ◌+◌, ◌-◌, ◌*◌, ◌/◌, ◌%◌, ◌^◌, ◌<◌, ◌≤◌, leb, List, [], ◌∷◌, ◌++◌, length, get_or, take, drop, Some, sym, refl, ap, ◌∙◌, mod-eq_of_lt, mul_assoc, mul_comm, add-mul, pow-suc, zero-add, div-one, add-one, arith, drop-cons, take-suc}
+use Rattle.std.proofs.Common.{◌≡◌, ℕ, zero, suc, ◌+◌, ◌*◌, ◌/◌, ◌%◌, ◌^◌, ◌<◌, List, [], ◌∷◌, ◌++◌, length, get_or, take, sym, refl, ap, ◌∙◌, mod-eq_of_lt, mul_assoc, mul_comm, add-mul, pow-suc, zero-add, div-one, add-one, arith, take-suc}
 use native.Mathlib.Nat.{div-div-eq-div-mul, pow-succ'}
 use lib.Arith.{mod-mul}
 use Rattle.std.specs.Int.Digits.{number_from_digits_after}
 use Rattle.std.proofs.lemmas.Nat.{div-mul-add, mod-mul-add}
 use Rattle.std.proofs.lemmas.Int.Digits.{number_push}
 use Rattle.std.proofs.ByRecursion.{All-push, All-take, All-get_or}
-use Rattle.std.proofs.lemmas.List.{length_push, length-take, length-drop, length-take-le, take_all, drop_all, nil_from_length}
-use Rattle.std.proofs.lemmas.Bool.{le-leb, cond-true}
-use Rattle.octets.specs.Numbers.{big_endian, number, field}
+use Rattle.std.proofs.lemmas.List.{length_push, length-take-le, take_all, nil_from_length}
+use Rattle.octets.specs.Numbers.{big_endian, number}
 use Rattle.octets.specs.Octets.{Octets}
 
 pub length-big_endian : (k n : ℕ) → length (big_endian k n) ≡ k
@@ -79,21 +78,3 @@ big_endian-descending zero n = refl
 big_endian-descending (suc zero) n = refl
 big_endian-descending (suc (suc k)) n =
     big_endian-cons (suc k) n ∙ ap (λ zs. (n / 256 ^ suc k % 256) ∷ zs) (big_endian-descending (suc k) n)
-
--- the elements of xs from i on, one by one; where k is a numeral, those that a read of each gives
-abbrev pub elements : List ℕ → ℕ → ℕ → List ℕ
-elements xs i zero = []
-elements xs i (suc k) = get_or xs i 0 ∷ elements xs (suc i) k
-
-pub elements_are : (xs : List ℕ) (i k : ℕ) → i + k ≡ length xs → elements xs i k ≡ drop i xs
-elements_are xs i zero e = sym (drop_all i xs (omega arith))
-elements_are xs i (suc k) e =
-    ap (λ zs. get_or xs i 0 ∷ zs) (elements_are xs (suc i) k (omega arith)) ∙ sym (drop-cons xs i 0 (omega arith))
-
--- a field that is there, from a read of each of its bytes
-pub field_read : (k : ℕ) (xs : List ℕ) (at n : ℕ) → at + k ≤ length xs → n ≡ number (elements (take (at + k - at) (drop at xs)) 0 k) → Some n ≡ field k xs at
-field_read k xs at n h e =
-    let part = take (at + k - at) (drop at xs) in
-    let all : 0 + k ≡ length part = simp (length-take, length-drop) (omega arith) in
-    ap Some (e ∙ ap number (elements_are part 0 k all ∙ ap (λ m. take m (drop at xs)) (omega arith)))
-    ∙ sym (cond-true (leb (at + k) (length xs)) _ _ (le-leb (at + k) (length xs) h))

@@ -1,11 +1,11 @@
 -- What a write leaves of a buffer, and when two lists are the same bytes.
-use Rattle.std.proofs.Common.{◌≡◌, ℕ, zero, suc, ◌+◌, ◌-◌, ◌<◌, ◌≤◌, min, Bool, true, false, ◌&&◌, eqb, leb, List, [], ◌∷◌, ◌++◌, length, get_or, take, drop, replicate, sym, refl, ap, ◌∙◌, ⊎_elim, append_assoc, arith}
+use Rattle.std.proofs.Common.{◌≡◌, ℕ, zero, suc, ◌+◌, ◌<◌, ◌≤◌, Bool, true, false, ◌&&◌, eqb, List, [], ◌∷◌, ◌++◌, length, get_or, take, drop, replicate, sym, refl, ap, ◌∙◌, ⊎_elim, append_assoc, arith}
 use borrow.Rule.Slice.PartMut.{put_mid}
 use lib.Bits.{bit_or, bit_xor, or_add_and, xor_add_and, and_le_l, and_le_r, xor_self}
 use lib.Seq.{take-nil, drop-nil}
 use Rattle.std.specs.List.{AllByRecursion}
 use Rattle.std.proofs.lemmas.List.{append-nil, length-append, length-take, length-drop, length-replicate, take_all, drop_all, take-replicate, take_at, drop_at, take_more, drop-drop}
-use Rattle.std.proofs.lemmas.Bool.{and_parts, eqb-true, eq-eqb, cases_lt, cases_Bool, and_from, leb-true, le-leb, cond_both, cond-true}
+use Rattle.std.proofs.lemmas.Bool.{and_parts, eqb-true, eq-eqb, cases_Bool, and_from, le-leb, cond-true}
 use Rattle.std.proofs.lemmas.Bool.Decides.{nat_tests}
 use Rattle.octets.specs.Octets.{zeros, over, wiped, placed, same}
 
@@ -51,16 +51,6 @@ pub drop-over-rest : (xs ys : List ℕ) → drop (length xs) (over xs ys) ≡ dr
 drop-over-rest xs ys =
     drop-over (length xs) xs ys ∙ rw (drop_all (length xs) xs (omega arith)) (over-nil (drop (length xs) ys))
 
--- the part that is written, as far as both reach, and what is left of the buffer
-pub over_part : (n : ℕ) (zs xs ys : List ℕ) → n ≡ min (length xs) (length ys) → zs ≡ take (n - 0) xs → zs ++ drop (n - 0) ys ≡ over xs ys
-over_part n zs xs ys e f =
-    ⊎_elim
-    (λ h. let k : n - 0 ≡ length ys = omega arith in
-    rw (f, k, drop_all (length ys) ys (omega arith), drop_all (length xs) ys (omega arith)))
-    (λ h. let k : n - 0 ≡ length xs = omega arith in
-    rw (f, k, take_all (length xs) xs (omega arith), take_all (length ys) xs h))
-    (cases_lt (length ys) (length xs))
-
 -- a write of no more bytes than the next one leaves no trace
 pub over-over : (xs zs ys : List ℕ) → length zs ≤ length xs → over xs (over zs ys) ≡ over xs ys
 over-over xs zs ys h =
@@ -81,12 +71,6 @@ wiped-fits n ys h =
 pub wiped_all : (n : ℕ) (ys : List ℕ) → length ys ≤ n → wiped n ys ≡ zeros (length ys)
 wiped_all n ys h = over_past (zeros n) ys (simp length-replicate h) ∙ take-replicate (length ys) n 0 h
 
-pub wiped_part : (n k : ℕ) (zs ys : List ℕ) → n ≡ min k (length ys) → zs ≡ replicate (length (take (n - 0) ys)) 0 → zs ++ drop (n - 0) ys ≡ wiped k ys
-wiped_part n k zs ys e f =
-    let m : length (take (n - 0) ys) ≡ n - 0 = simp length-take (omega arith) in
-    over_part n zs (zeros k) ys (simp length-replicate e)
-    (f ∙ ap zeros m ∙ sym (take-replicate (n - 0) k 0 (omega arith)))
-
 -- `placed`
 
 pub placed-fits : (at : ℕ) (xs ys : List ℕ) → at + length xs ≤ length ys → placed at xs ys ≡ take at ys ++ (xs ++ drop (at + length xs) ys)
@@ -94,14 +78,6 @@ placed-fits at xs ys h = cond-true _ _ _ (le-leb _ _ h)
 
 pub placed_part : (at k : ℕ) (zs xs ys : List ℕ) → at + length xs ≤ length ys → k ≡ length xs → zs ≡ xs → put_mid at k ys zs ≡ placed at xs ys
 placed_part at k zs xs ys h e f = rw (e, f, drop-drop) (sym (placed-fits at xs ys h))
-
-pub length-placed : (at : ℕ) (xs ys : List ℕ) → length (placed at xs ys) ≡ length ys
-length-placed at xs ys =
-    cond_both (leb (at + length xs) (length ys)) (take at ys ++ (xs ++ drop (at + length xs) ys)) ys
-    (λ zs. length zs ≡ length ys)
-    (λ e. let h = leb-true (at + length xs) (length ys) e in
-    simp (length-append, length-take, length-drop) (omega arith))
-    (λ e. refl)
 
 -- what is written right behind xs, where xs was written over the start
 pub placed_behind : (at : ℕ) (xs ys out : List ℕ) → length xs ≡ at → at + length ys ≤ length out → placed at ys (over xs out) ≡ over (xs ++ ys) out

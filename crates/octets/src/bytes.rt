@@ -5,7 +5,5 @@ ghost use Rattle.octets.specs.Octets.{Octets};
 pub fn bytes_are_octets(bytes: &[u8])
     ensures every_value_is_a_byte { Octets bytes.now }
 {
-    for b in bytes {
-        let _seen = *b;
-    }
+    let _read = bytes;
 }

@@ -5,6 +5,6 @@ mod buffers;
 mod bytes;
 mod numbers;
 
-pub use buffers::{copy_at, copy_over, same_octets, zero_first};
+pub use buffers::{NoRoom, copy_at, copy_over, same_octets, zero_first};
 pub use bytes::bytes_are_octets;
-pub use numbers::{read_u16, read_u32, read_u64, write_u16, write_u32, write_u64};
+pub use numbers::{Number, array_at};

@@ -1,68 +1,90 @@
-// Big-endian numbers of 2, 4 and 8 bytes at a place of a slice.
-ghost use Rattle.std.specs.Prelude.{◌≡◌, ◌+◌, length, nat_le};
-ghost use Rattle.octets.specs.Numbers.{big_endian, field};
+// Big-endian numbers at a place of a slice.
+ghost use Rattle.std.specs.Prelude.{◌≡◌, ℕ, ◌+◌, List, length, nat_le, is_ok, refl};
+ghost use Rattle.octets.specs.Numbers.{big_endian, number, field_of, array_of};
 ghost use Rattle.octets.specs.Octets.{placed};
 
-use crate::buffers::copy_at;
+use crate::buffers::{NoRoom, copy_at};
 
-// The number of 2 bytes at `at`, if they are all there.
-pub fn read_u16(bytes: &[u8], at: usize) -> Option<u16>
-    ensures the_field { result ≡ field 2 bytes.now at }
-{
-    if bytes.len() < 2 || bytes.len() - 2 < at {
-        return None;
+// A number of a fixed width, written with the most significant byte first.
+pub trait Number: Sized {
+    // how many bytes a number has
+    ghost width: { ℕ };
+
+    // the number that the bytes write
+    ghost from_bytes: { List ℕ → Self };
+
+    // the bytes of a number
+    ghost to_bytes: { Self → List ℕ };
+
+    // The number at `at`, if its bytes are all there.
+    fn read(bytes: &[u8], at: usize) -> Option<Self>
+        ensures the_field { result ≡ field_of width from_bytes bytes.now at };
+
+    // Writes the number at `at`, where it fits there.
+    fn write(self, out: &mut [u8], at: usize) -> Result<(), NoRoom>
+        ensures whether_it_fits { is_ok result ≡ nat_le (at + width) (length out.old) }
+        ensures written { out.new ≡ placed at (to_bytes self) out.old };
+
+    ghost bytes_fill_the_width: { (n : Self) → length (to_bytes n) ≡ width };
+}
+
+impl Number for u16 {
+    ghost width = { 2 };
+
+    ghost from_bytes = { number };
+
+    ghost to_bytes = { big_endian 2 };
+
+    ghost bytes_fill_the_width = { λ n. refl };
+
+    fn read(bytes: &[u8], at: usize) -> Option<u16> {
+        array_at(bytes, at).map(u16::from_be_bytes)
     }
-    let field = &bytes[at..at + 2];
-    Some(u16::from_be_bytes([field[0], field[1]]))
-}
 
-// The number of 4 bytes at `at`, if they are all there.
-pub fn read_u32(bytes: &[u8], at: usize) -> Option<u32>
-    ensures the_field { result ≡ field 4 bytes.now at }
-{
-    if bytes.len() < 4 || bytes.len() - 4 < at {
-        return None;
+    fn write(self, out: &mut [u8], at: usize) -> Result<(), NoRoom> {
+        copy_at(&u16::to_be_bytes(self), out, at)
     }
-    let field = &bytes[at..at + 4];
-    Some(u32::from_be_bytes([field[0], field[1], field[2], field[3]]))
 }
 
-// The number of 8 bytes at `at`, if they are all there.
-pub fn read_u64(bytes: &[u8], at: usize) -> Option<u64>
-    ensures the_field { result ≡ field 8 bytes.now at }
-{
-    if bytes.len() < 8 || bytes.len() - 8 < at {
-        return None;
+impl Number for u32 {
+    ghost width = { 4 };
+
+    ghost from_bytes = { number };
+
+    ghost to_bytes = { big_endian 4 };
+
+    ghost bytes_fill_the_width = { λ n. refl };
+
+    fn read(bytes: &[u8], at: usize) -> Option<u32> {
+        array_at(bytes, at).map(u32::from_be_bytes)
     }
-    let field = &bytes[at..at + 8];
-    Some(u64::from_be_bytes([
-        field[0], field[1], field[2], field[3], field[4], field[5], field[6], field[7],
-    ]))
+
+    fn write(self, out: &mut [u8], at: usize) -> Result<(), NoRoom> {
+        copy_at(&u32::to_be_bytes(self), out, at)
+    }
 }
 
-// Writes `n` in 2 bytes at `at` and says true, or says false where they do not fit there.
-pub fn write_u16(n: u16, out: &mut [u8], at: usize) -> bool
-    ensures whether_it_fits { result ≡ nat_le (at + 2) (length out.old) }
-    ensures written { out.new ≡ placed at (big_endian 2 n) out.old }
-{
-    let bytes: [u8; 2] = n.to_be_bytes();
-    copy_at(&bytes, out, at)
+impl Number for u64 {
+    ghost width = { 8 };
+
+    ghost from_bytes = { number };
+
+    ghost to_bytes = { big_endian 8 };
+
+    ghost bytes_fill_the_width = { λ n. refl };
+
+    fn read(bytes: &[u8], at: usize) -> Option<u64> {
+        array_at(bytes, at).map(u64::from_be_bytes)
+    }
+
+    fn write(self, out: &mut [u8], at: usize) -> Result<(), NoRoom> {
+        copy_at(&u64::to_be_bytes(self), out, at)
+    }
 }
 
-// Writes `n` in 4 bytes at `at` and says true, or says false where they do not fit there.
-pub fn write_u32(n: u32, out: &mut [u8], at: usize) -> bool
-    ensures whether_it_fits { result ≡ nat_le (at + 4) (length out.old) }
-    ensures written { out.new ≡ placed at (big_endian 4 n) out.old }
+// The `N` bytes at `at`, if they are all there.
+pub fn array_at<const N: usize>(bytes: &[u8], at: usize) -> Option<[u8; N]>
+    ensures the_bytes_there { result ≡ array_of N bytes.now at }
 {
-    let bytes: [u8; 4] = n.to_be_bytes();
-    copy_at(&bytes, out, at)
-}
-
-// Writes `n` in 8 bytes at `at` and says true, or says false where they do not fit there.
-pub fn write_u64(n: u64, out: &mut [u8], at: usize) -> bool
-    ensures whether_it_fits { result ≡ nat_le (at + 8) (length out.old) }
-    ensures written { out.new ≡ placed at (big_endian 8 n) out.old }
-{
-    let bytes: [u8; 8] = n.to_be_bytes();
-    copy_at(&bytes, out, at)
+    bytes.get(at..)?.first_chunk().copied()
 }

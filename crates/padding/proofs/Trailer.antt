@@ -1,17 +1,10 @@
 -- The trailer: its length, its bytes, and the writes that make it.
-use Rattle.std.proofs.Common.{◌≡◌, ℕ, ◌+◌, ◌-◌, ◌<◌, ◌≤◌, Bool, false, ◌&&◌, eqb, List, [], ◌∷◌, ◌++◌, length, get_or, take, drop, set, sym, ap, ◌∙◌, arith}
-use lib.Bits.{bit_or, bit_xor, xor_zero_r}
-use borrow.Rule.Slice.PartMut.{put_mid}
-use Rattle.std.proofs.lemmas.List.FromFn.{length-range_with_len, map-range_with_len_more}
-use Rattle.std.proofs.lemmas.List.{append_assoc, append-nil, drop_all, length-append, length-drop, length-set, map-id, take_all, take_more, take_more_set, take_rest, length-take-le}
-use Rattle.std.proofs.lemmas.Bool.Decides.{nat_tests}
+use Rattle.std.proofs.Common.{◌≡◌, ℕ, ◌+◌, ◌-◌, ◌<◌, ◌≤◌, List, [], ◌∷◌, ◌++◌, length, take, set, sym, ap, ◌∙◌, arith}
+use Rattle.std.proofs.lemmas.List.FromFn.{map-range_with_len_more}
+use Rattle.std.proofs.lemmas.List.{append_assoc, length-set, map-id, take_all, take_more_set}
 use Rattle.std.proofs.lemmas.Bool.{le-leb}
 use Rattle.octets.specs.Octets.{same}
-use Rattle.octets.proofs.Octets.{no_difference, same_push}
-use Rattle.padding.specs.Padding.{data_end, pad_length, ramp, trailed, trailer, well_padded}
-
-pub length-trailer : (p : ℕ) → length (trailer p) ≡ p + 2
-length-trailer p = simp (length-append, length-range_with_len)
+use Rattle.padding.specs.Padding.{ramp, trailed, trailer}
 
 pub ramp_more : (i : ℕ) → ramp (i + 1) ≡ ramp i ++ ((i + 1) ∷ [])
 ramp_more i =
@@ -34,34 +27,3 @@ pub trailed-fits : (n p : ℕ) (text : List ℕ) → length text ≡ n + p + 2 �
 trailed-fits n p text h allowed =
     let same : length text - (n + 2) ≡ p = omega arith in
     rw (le-leb (n + 2) (length text) (omega arith), le-leb (length text) (n + 2 + 255) (omega arith), same)
-
-pub trailed_is : (n p : ℕ) (text rest : List ℕ) → length text ≡ n + p + 2 → p ≤ 255 → rest ≡ trailer p → put_mid n (length text - n) text rest ≡ trailed n text
-trailed_is n p text rest h allowed is =
-    rw (drop_all (length text - n) (drop n text) (omega (arith, length-drop n text)), append-nil, is) (sym (trailed-fits n p text h allowed))
-
--- one byte more of a comparison: d gathers the differences, and is 0 while there is none
-pub same_step : (xs zs : List ℕ) (i d y : ℕ) → i < length xs → length zs ≡ i → same (take i xs) zs ≡ eqb d 0 → same (take (i + 1) xs) (zs ++ (y ∷ [])) ≡ eqb (bit_or d (bit_xor (get_or xs i 0) y)) 0
-same_step xs zs i d y h k so =
-    rw (take_more xs i 0 h)
-    (same_push (take i xs) zs (get_or xs i 0) y (length-take-le i xs (omega arith) ∙ sym k)
-    ∙ ap (λ t. t && eqb (get_or xs i 0) y) so ∙ sym (no_difference d (get_or xs i 0) y))
-
-pub ramp-compared : (xs : List ℕ) (i d : ℕ) → i < length xs → same (take i xs) (ramp i) ≡ eqb d 0 → same (take (i + 1) xs) (ramp (i + 1)) ≡ eqb (bit_or d (bit_xor (get_or xs i 0) (i + 1))) 0
-ramp-compared xs i d h so = rw ramp_more (same_step xs (ramp i) i d (i + 1) h (length-range_with_len 1 i) so)
-
-pub trailer-compared : (xs : List ℕ) (i p d : ℕ) → i ≡ p → length xs ≡ p + 2 → same (take i xs) (ramp i) ≡ eqb d 0 → eqb (bit_or (bit_or d (bit_xor (get_or xs p 0) p)) (get_or xs (p + 1) 0)) 0 ≡ same xs (trailer p)
-trailer-compared xs i p d e h so =
-    let d' : ℕ = bit_or d (bit_xor (get_or xs p 0) p) in
-    let one = same_step xs (ramp p) p d p (omega arith) (length-range_with_len 1 p) (rw e at so) in
-    let two = same_step xs (ramp p ++ (p ∷ [])) (p + 1) d' 0 (omega arith) (simp (length-append, length-range_with_len)) one in
-    sym (rw (xor_zero_r, take_all (p + 1 + 1) xs (omega arith), append_assoc) at two)
-
--- the part that is compared is what text ends with
-pub well_padded_is : (text : List ℕ) (n : ℕ) (t : Bool) → pad_length text ≤ 255 → pad_length text + 2 ≤ length text → n ≡ length text - 2 - pad_length text → t ≡ same (take (length text - n) (drop n text)) (trailer (length (take (length text - n) (drop n text)) - 2)) → t ≡ well_padded text
-well_padded_is text n t byte fits e so =
-    let pad : length (drop n text) - 2 ≡ pad_length text = simp length-drop (omega arith) in
-    let at : n ≡ data_end text = omega arith in
-    rw (le-leb (pad_length text) 255 byte, le-leb (pad_length text + 2) (length text) fits, ← at) (rw (take_rest text n, pad) at so)
-
-pub well_padded-cut : (text : List ℕ) → length text < pad_length text + 2 → false ≡ well_padded text
-well_padded-cut text h = grind (arith, nat_tests)

@@ -4,6 +4,11 @@ ghost use Rattle.octets.specs.Octets.{same};
 ghost use Rattle.padding.specs.Padding.{data_length, least_pad, pad_to, trailed, trailer, well_padded, Lawful, LeastFill};
 ghost use Rattle.padding.specs.Worked.{WorkedValues};
 
+use octets::same_octets;
+
+// The most bytes that a trailer has: 255 padding bytes, PAD LENGTH and a zero byte.
+const LONGEST_TRAILER: usize = 257;
+
 // The least number of padding bytes with which `n` data bytes fill whole units.
 fn pad_to(unit: usize, n: usize) -> usize
     requires a_unit { 0 < unit }
@@ -26,12 +31,12 @@ pub fn pad_length(n: usize, unit: usize) -> usize
 
 // Fills `rest` with the trailer of that length.
 fn fill_trailer(rest: &mut [u8])
-    requires a_trailer_has_that_length { (2 ≤ length rest.old) × (length rest.old ≤ 2 + 255) }
+    requires a_trailer_has_that_length { (2 ≤ length rest.old) × (length rest.old ≤ LONGEST_TRAILER) }
     ensures the_trailer { rest.new ≡ trailer (length rest.old - 2) }
 {
     let p = rest.len() - 2;
-    for i in 0..p {
-        rest[i] = i as u8 + 1;
+    for (i, byte) in rest[..p].iter_mut().enumerate() {
+        *byte = i as u8 + 1;
     }
     rest[p] = p as u8;
     rest[p + 1] = 0;
@@ -50,43 +55,25 @@ pub fn write_trailer(text: &mut [u8], n: usize)
 
 // Whether `rest` is the trailer of that length. Every byte is read, wherever the first difference is.
 fn is_trailer(rest: &[u8]) -> bool
-    requires a_trailer_has_that_length { (2 ≤ length rest.now) × (length rest.now ≤ 2 + 255) }
+    requires a_trailer_has_that_length { (2 ≤ length rest.now) × (length rest.now ≤ LONGEST_TRAILER) }
     ensures whether_the_trailer { result ≡ same rest.now (trailer (length rest.now - 2)) }
 {
-    let p = rest.len() - 2;
-    let mut difference: u8 = 0;
-    for i in 0..p {
-        difference |= rest[i] ^ (i as u8 + 1);
-    }
-    difference |= rest[p] ^ p as u8;
-    difference |= rest[p + 1];
-    difference == 0
-}
-
-// Whether `text` ends with the trailer that its PAD LENGTH says.
-fn is_padded(text: &[u8]) -> bool
-    ensures whether_well_padded { result ≡ well_padded text.now }
-    ensures inverse_to_padding { Lawful }
-{
-    let len = text.len();
-    if len < 2 {
-        return false;
-    }
-    let p = text[len - 2] as usize;
-    if len - 2 < p {
-        return false;
-    }
-    is_trailer(&text[len - 2 - p..len])
+    // Stays: a room of the longest length, since the engine has no heap; with it the comparison is the one of all bytes.
+    let mut room = [0; LONGEST_TRAILER];
+    let expected = &mut room[..rest.len()];
+    fill_trailer(expected);
+    same_octets(rest, expected)
 }
 
 // How many bytes of `text` are data: those before the trailer that PAD LENGTH says. None where that trailer is not there.
+#[tactic(auto, using(crate::proofs::Laws::lawful))]
 pub fn data_length(text: &[u8]) -> Option<usize>
     ensures before_the_trailer { result ≡ data_length text.now }
     ensures inverse_to_padding { Lawful }
 {
-    if !is_padded(text) {
+    let [.., pad_length, _] = text else {
         return None;
-    }
-    let len = text.len();
-    Some(len - 2 - text[len - 2] as usize)
+    };
+    let n = text.len().checked_sub(*pad_length as usize + 2)?;
+    is_trailer(&text[n..]).then_some(n)
 }

@@ -1,74 +1,65 @@
 -- The steps of sealing and opening a pairing, over plain lists. Assumes nothing.
-use Rattle.std.proofs.Common.{◌≡◌, ℕ, ◌+◌, ◌-◌, ◌%◌, ◌≤◌, Bool, cond, List, ◌++◌, length, take, drop, Some, None, Ok, sym, ap, ◌∙◌, append_assoc, arith}
-use native.Mathlib.Nat.{sub-zero}
-use Rattle.std.proofs.lemmas.List.{length-append, length-drop, take_at, take_rest, drop-drop, drop_at}
-use Rattle.octets.specs.Octets.{over, placed, same}
-use Rattle.octets.proofs.Octets.{over-fits, placed-fits}
-use Rattle.suite.specs.Cipher.{CipherMeaning, ciphering}
+use Rattle.std.proofs.Common.{◌≡◌, ℕ, ◌+◌, ◌-◌, ◌%◌, ◌≤◌, Bool, cond, List, ◌++◌, length, take, drop, Some, None, sym, ap, ◌∙◌, append_assoc, arith}
+use Rattle.std.proofs.lemmas.List.{length-append, length-take-le, length-drop, take_at, drop-drop}
+use Rattle.octets.specs.Octets.{over, same}
+use Rattle.octets.proofs.Octets.{over-fits, over_all}
+use Rattle.suite.specs.Cipher.{CipherMeaning, ciphering, text_after}
 use Rattle.suite.specs.Fits.{Lengths}
-use Rattle.suite.specs.Integrity.{IntegrityMeaning}
+use Rattle.suite.specs.Integrity.{IntegrityMeaning, CheckValueHasItsSize}
 use Rattle.suite.specs.Meaning.{Given, check_size}
 use Rattle.suite.specs.declared.Sizes.{Sizes}
 use Rattle.suite.specs.declared.Triple.{Triple}
 use Rattle.suite.proofs.Outcomes.{ciphering-served}
-use Rattle.pairing.specs.Pairing.{pair_serves, pair_opened, opened_at, check_value}
-use Rattle.pairing.specs.PairingLaws.{sides, whole-units}
+use Rattle.pairing.specs.Pairing.{pair_serves, pair_sealed, pair_opened, opened_at, check_value}
+use Rattle.pairing.specs.PairingLaws.{sides, whole-units, check-length}
 
--- the cipher takes what fits the pair
-pub ciphers_through : (c : CipherMeaning) (i : IntegrityMeaning) (t : Triple) (z : Sizes) (g : Given)
-    → pair_serves c i t ≡ Some z → Lengths t z g → (turned : List ℕ → List ℕ → List ℕ → List ℕ) (text work : List ℕ)
-    → length text % z.unit ≡ 0 → 240 ≤ length work
-    → ciphering turned c t.encryption g.key g.vector text work ≡ Ok (turned g.key g.vector text)
-ciphers_through c i t z g told l turned text work units room =
-    let s = sides c i t z g told l in
-    ciphering-served turned c t.encryption s.cipher g.key g.vector text work s.cipher_told s.vector
-    (whole-units c i t z g s (length text) units) room
+-- e stands in the first n bytes of a buffer, and v in the k behind them
+behind : (e v out : List ℕ) (n k : ℕ) → length e ≡ n → length v ≡ k → n + k ≤ length out → e ++ (v ++ drop k (drop n out)) ≡ over (e ++ v) out
+behind e v out n k en vk room =
+    ap (λ w. e ++ (v ++ w)) (drop-drop k n out ∙ ap (λ m. drop m out) (omega (arith, length-append e v)))
+    ∙ (sym (append_assoc e v (drop (length (e ++ v)) out)) ∙ sym (over-fits (e ++ v) out (omega (arith, length-append e v))))
 
--- the first bytes of a buffer over which v was written are v
-pub front_of_over : (v value zs : List ℕ) (k b : ℕ) → b ≡ k → length v ≡ k → k ≤ length zs → value ≡ over v zs → take b value ≡ v
-front_of_over v value zs k b bk vk long is =
-    ap (λ m. take m value) bk ∙ (ap (take k) (is ∙ over-fits v zs (omega arith)) ∙ take_at v (drop (length v) zs) k vk)
+module _ (c : CipherMeaning) (i : IntegrityMeaning) (t : Triple) (z : Sizes) (g : Given) (served : pair_serves c i t ≡ Some z) (l : Lengths t z g) where
+  -- what the cipher makes of a text that fits the pair
+  pub turned_there : (turned : List ℕ → List ℕ → List ℕ → List ℕ) (x old new work : List ℕ) → old ≡ x → length x % z.unit ≡ 0 → 240 ≤ length work
+      → new ≡ text_after (ciphering turned c t.encryption g.key g.vector old work) old → new ≡ turned g.key g.vector x
+  turned_there turned x old new work same units room is =
+      let s = sides c i t z g served l in
+      is
+      ∙ (ap (λ r. text_after r old)
+      (ciphering-served turned c t.encryption s.cipher g.key g.vector old work s.cipher_told s.vector
+      (whole-units c i t z g s (length old) (ap (λ w. length w % z.unit) same ∙ units)) room)
+      ∙ ap (turned g.key g.vector) same)
 
--- e is written over the first n bytes, and v, the first k bytes of a longer buffer, behind it
-pub sealed_in_place : (e v value zs out : List ℕ) (n k a b : ℕ) → a ≡ n → b ≡ k → length e ≡ n → length v ≡ k → n + k ≤ length out
-    → k ≤ length zs → value ≡ over v zs → placed n (take b value) (e ++ drop a out) ≡ over (e ++ v) out
-sealed_in_place e v value zs out n k a b an bk en vk room long is =
-    let w = front_of_over v value zs k b bk vk long is in
-    let d : drop a out ≡ drop n out = ap (λ m. drop m out) an in
-    let fits : n + length v ≤ length (e ++ drop n out) = simp (length-append, length-drop) (omega arith) in
-    ap (λ m. placed n (take b value) (e ++ m)) d
-    ∙ (ap (λ m. placed n m (e ++ drop n out)) w
-    ∙ (placed-fits n v (e ++ drop n out) fits
-    ∙ (ap (λ m. m ++ (v ++ drop (n + length v) (e ++ drop n out))) (take_at e (drop n out) n en)
-    ∙ (ap (λ m. e ++ (v ++ m)) (rest e v out n en)
-    ∙ (sym (append_assoc e v (drop (length (e ++ v)) out))
-    ∙ sym (over-fits (e ++ v) out (simp length-append (omega arith))))))))
-  where
-    rest : (e v out : List ℕ) (n : ℕ) → length e ≡ n → drop (n + length v) (e ++ drop n out) ≡ drop (length (e ++ v)) out
-    rest e v out n en =
-        sym (drop-drop (length v) n (e ++ drop n out))
-        ∙ (ap (drop (length v)) (drop_at e (drop n out) n en)
-        ∙ (drop-drop (length v) n out ∙ ap (λ m. drop m out) (omega (arith, length-append e v))))
+  module _ (size : CheckValueHasItsSize i) where
+    value-long : (e : List ℕ) → length (check_value c i t g e) ≡ z.check
+    value-long e = check-length c i size t z g (sides c i t z g served l) e
 
--- x stands in place of e, which was written over the first n bytes
-pub opened_in_place : (x e out : List ℕ) (n a : ℕ) → a ≡ n → length x ≡ n → length e ≡ n → n ≤ length out
-    → x ++ drop a (over e out) ≡ over x out
-opened_in_place x e out n a an xn en room =
-    ap (λ m. x ++ drop m (over e out)) an
-    ∙ (ap (λ m. x ++ drop n m) (over-fits e out (omega arith))
-    ∙ (ap (λ m. x ++ m) (drop_at e (drop (length e) out) n en ∙ ap (λ m. drop m out) (en ∙ sym xn)) ∙ sym (over-fits x out (omega arith))))
+    -- the text is enciphered in place, and the check value written into the first bytes of the rest
+    pub sealed_there : (n : ℕ) (out rest new value : List ℕ) → rest ≡ drop n out → length new ≡ n → n + z.check ≤ length out
+        → new ≡ c.enciphered g.key g.vector (take n out) → value ≡ over (check_value c i t g new) (take z.check rest)
+        → new ++ (value ++ drop z.check rest) ≡ over (pair_sealed c i t g (take n out)) out
+    sealed_there n out rest new value behind-it long room e-is value-is =
+        let v = check_value c i t g new in
+        let rest-long : z.check ≤ length rest = omega (arith, ap length behind-it, length-drop n out) in
+        let v-is : value ≡ v =
+        value-is ∙ over_all v (take z.check rest) (value-long new ∙ sym (length-take-le z.check rest rest-long)) in
+        ap (λ w. new ++ (w ++ drop z.check rest)) v-is
+        ∙ (ap (λ w. new ++ (v ++ drop z.check w)) behind-it
+        ∙ (behind new v out n z.check long (value-long new) room ∙ ap (λ e. over (e ++ check_value c i t g e) out) e-is))
 
-module _ (c : CipherMeaning) (i : IntegrityMeaning) (t : Triple) (z : Sizes) (g : Given) (y : List ℕ) (served : pair_serves c i t ≡ Some z) where
-  -- what opening comes to, once the check value behind the enciphered part was compared
-  pub compared : (n k : ℕ) (b r : Bool) (value zs : List ℕ) → n ≡ length y - z.check → k ≡ z.check
-      → length (check_value c i t g (take n y)) ≡ z.check → z.check ≤ length zs
-      → value ≡ over (check_value c i t g (take (n - 0) y)) zs → r ≡ same (take (length y - n) (drop n y)) (take (k - 0) value) → r ≡ b
-      → pair_opened c i t g y ≡ cond b (Some (c.deciphered g.key g.vector (take n y))) None
-  compared n k b r value zs nk kz long room is test rb =
-      let v = check_value c i t g (take n y) in
-      let value-is : value ≡ over v zs = is ∙ ap (λ m. over (check_value c i t g (take m y)) zs) (sub-zero n) in
-      let v-is = front_of_over v value zs z.check (k - 0) (sub-zero k ∙ kz) long room value-is in
-      let right : same (drop n y) v ≡ b =
-      ap (λ w. same w v) (sym (take_rest y n)) ∙ (ap (same (take (length y - n) (drop n y))) (sym v-is) ∙ (sym test ∙ rb)) in
-      ap (λ o. opened_at c i (length y - check_size o) t g y) served
-      ∙ (ap (λ m. opened_at c i m t g y) (sym nk) ∙ ap (λ w. cond w (Some (c.deciphered g.key g.vector (take n y))) None) right)
+    -- what opening comes to, once the check value behind the enciphered part was compared
+    pub compared : (y e check value zs : List ℕ) (b r : Bool) → e ≡ take (length y - z.check) y → check ≡ drop (length y - z.check) y
+        → z.check ≤ length zs → value ≡ over (check_value c i t g e) zs → r ≡ same check (take z.check value) → r ≡ b
+        → pair_opened c i t g y ≡ cond b (Some (c.deciphered g.key g.vector (take (length y - z.check) y))) None
+    compared y e check value zs b r e-is check-is room value-is test rb =
+        let n = length y - z.check in
+        let v = check_value c i t g e in
+        let long = value-long e in
+        let front : take z.check value ≡ v =
+        ap (take z.check) (value-is ∙ over-fits v zs (omega arith)) ∙ take_at v (drop (length v) zs) z.check long in
+        let right : same (drop n y) (check_value c i t g (take n y)) ≡ b =
+        ap (λ w. same w (check_value c i t g (take n y))) (sym check-is)
+        ∙ (ap (λ w. same check (check_value c i t g w)) (sym e-is) ∙ (ap (same check) (sym front) ∙ (sym test ∙ rb))) in
+        ap (λ o. opened_at c i (length y - check_size o) t g y) served
+        ∙ ap (λ w. cond w (Some (c.deciphered g.key g.vector (take n y))) None) right

@@ -26,9 +26,9 @@ record Parts (a : Option CipherSizes) (b : Option IntegritySizes) (z : Sizes) : 
   together : both cipher integrity ≡ z
 
 parts : (a : Option CipherSizes) (b : Option IntegritySizes) (z : Sizes) → paired a b ≡ Some z → Parts a b z
-parts None None z e = let n : ◌≡◌ {A = ℕ} 0 1 = cc in absurd (omega arith)
-parts None (Some i) z e = let n : ◌≡◌ {A = ℕ} 0 1 = cc in absurd (omega arith)
-parts (Some c) None z e = let n : ◌≡◌ {A = ℕ} 0 1 = cc in absurd (omega arith)
+parts None None z e = cc
+parts None (Some i) z e = cc
+parts (Some c) None z e = cc
 parts (Some c) (Some i) z e =
     record { cipher = c; integrity = i; cipher_told = refl; integrity_told = refl; together = cc }
 
@@ -49,9 +49,9 @@ module _ (c : CipherMeaning) (i : IntegrityMeaning) where
         cipher = p.cipher;
         integrity = p.integrity;
         together = p.together;
-        cipher_told = ap (λ n. c.serves t.encryption n) l.key ∙ p.cipher_told;
+        cipher_told = cc;
         integrity_told = p.integrity_told;
-        vector = l.vector ∙ ap (λ (w : Sizes). w.vector) (sym p.together);
+        vector = cc;
       }
 
   pub whole-units : (t : Triple) (z : Sizes) (g : Given) (s : Sides t z g) (n : ℕ) → n % z.unit ≡ 0 → n % s.cipher.unit ≡ 0
@@ -142,7 +142,7 @@ module _ (c : CipherMeaning) (i : IntegrityMeaning) where
         → Whole side.cipher (take n y) → same (drop n y) (check_value c i t g (take n y)) ≡ b
         → cond b (Some (c.deciphered g.key g.vector (take n y))) None ≡ Some x
         → (c.deciphered g.key g.vector (take n y) ≡ x) × (pair_sealed c i t g x ≡ y)
-    taken_apart enciphering_undoes n x y false h e o = let z : ◌≡◌ {A = ℕ} 0 1 = cc in absurd (omega arith)
+    taken_apart enciphering_undoes n x y false h e o = cc
     taken_apart enciphering_undoes n x y true h e o =
         let is : c.deciphered g.key g.vector (take n y) ≡ x = cc in
         let back : c.enciphered g.key g.vector x ≡ take n y =

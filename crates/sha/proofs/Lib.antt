@@ -1,3 +1,3 @@
-mod Eight
-mod Sized
-mod Whole
+mod Eights
+mod Quarters
+mod Schedules

@@ -7,5 +7,5 @@ mod sha256;
 
 pub use chaining::{Chain, Rounds};
 pub use digests::{sha1_digest, sha256_digest};
-pub use sha1::{Sha1, Sha1Rounds};
-pub use sha256::{Sha256, Sha256Rounds};
+pub use sha1::{Sha1, Sha1Compression, Sha1Rounds};
+pub use sha256::{Sha256, Sha256Compression, Sha256Rounds};

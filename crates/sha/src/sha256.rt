@@ -1,11 +1,11 @@
 // SHA-256: its compression function, which makes the rounds of a chain.
-ghost use Rattle.std.specs.Prelude.{◌≡◌, ◌+◌, ◌<◌, ◌≤◌, take, slice_index};
+ghost use Rattle.std.specs.Prelude.{◌≡◌, ◌+◌, ◌<◌, ◌≤◌, slice_index};
 ghost use Rattle.std.proofs.Math.Path.{refl};
-ghost use Rattle.chaining.specs.Turns.{built, turns};
-ghost use Rattle.sha.specs.Sha256.{Σ₀, Σ₁, σ₀, σ₁, K, initial, expanded, extended, scheduled, W, round, round_at, rounds, added, compressed};
+ghost use Rattle.chaining.specs.Turns.{turns};
+ghost use Rattle.sha.specs.Sha256.{Σ₀, Σ₁, σ₀, σ₁, K, initial, expanded, extended, W, round, rounds, compressed};
 ghost use Rattle.std.proofs.Common.{rules};
 
-use chaining::{Chain, Rounds, block_word, choice, majority};
+use chaining::{Chain, Compression, HashValue, block_words, choice, majority};
 
 // The constants of the 64 rounds.
 const ROUND_CONSTANTS: [u32; 64] = [
@@ -24,60 +24,49 @@ const INITIAL_HASH_VALUE: [u32; 8] = [
     0x6a09e667, 0xbb67ae85, 0x3c6ef372, 0xa54ff53a, 0x510e527f, 0x9b05688c, 0x1f83d9ab, 0x5be0cd19,
 ];
 
-// The hash value of the blocks so far.
+// SHA-256's compression function.
 #[derive(Drop)]
-pub struct Sha256Rounds {
-    state: [u32; 8],
-}
+pub struct Sha256Compression;
+
+// The hash value of the blocks so far.
+pub type Sha256Rounds = HashValue<Sha256Compression, 8>;
 
 // SHA-256 of a message that comes in parts.
 pub type Sha256 = Chain<Sha256Rounds>;
 
-impl Rounds for Sha256Rounds {
+impl Compression<8> for Sha256Compression {
     ghost initial = { initial };
 
-    ghost turned = { compressed };
+    ghost mixed = { λ v block. rounds (W block) v };
 
-    ghost count = { 8 };
+    ghost compressed = { compressed };
 
-    ghost value = { λ rounds. rounds.state };
+    ghost sums = { unfold compressed in λ v block. refl };
 
     ghost initial_count = { Prim.search rules };
-
-    ghost turned_count = { unfold compressed in λ v block. refl };
 
     ghost nonempty = { Prim.search rules };
 
     ghost bounded = { Prim.search rules };
 
-    fn start() -> Self {
-        Sha256Rounds {
-            state: INITIAL_HASH_VALUE,
-        }
+    fn initial_value() -> [u32; 8] {
+        INITIAL_HASH_VALUE
     }
 
-    fn turn(&mut self, block: &[u8; 64]) {
-        compress(&mut self.state, block);
-    }
-
-    fn words(&self) -> &[u32] {
-        &self.state
-    }
-
-    fn word_count() -> usize {
-        8
+    fn mix(v: &mut [u32; 8], block: &[u8; 64]) {
+        rounds(v, &schedule(block));
     }
 }
 
-// The constant of the round `t`.
-fn round_constant(t: usize) -> u32
-    requires { t < 64 }
-    ensures of_the_table { result ≡ slice_index K t }
+// The constants of the rounds.
+fn round_constants() -> &'static [u32; 64]
+    ensures of_the_standard { result.now ≡ K }
 {
-    ROUND_CONSTANTS[t]
+    &ROUND_CONSTANTS
 }
 
 // FIPS 180-4's Σ₀.
+// Stays: this one and the three below are the standard's functions, a line each; one with three numbers would hide their names.
 fn big_sigma0(x: u32) -> u32
     ensures mixed_bits { result ≡ Σ₀ x }
 {
@@ -121,8 +110,8 @@ fn round(v: &mut [u32; 8], k: u32, w: u32)
 
 // The word at place `t` of the message schedule, from 16 on, from words before it.
 fn expanded(w: &[u32; 64], t: usize) -> u32
-    requires le_t { 16 ≤ t }
-    requires t_bound { t < 64 }
+    requires behind_the_block { 16 ≤ t }
+    requires within { t < 64 }
     ensures next_word { result ≡ expanded w.now t }
 {
     small_sigma1(w[t - 2])
@@ -131,50 +120,17 @@ fn expanded(w: &[u32; 64], t: usize) -> u32
         .wrapping_add(w[t - 16])
 }
 
-// The word at place `t` of the message schedule, from words before it.
-fn scheduled(block: &[u8; 64], w: &[u32; 64], t: usize) -> u32
-    requires { t < 64 }
-    ensures next_word { result ≡ scheduled block.now w.now t }
-{
-    if t < 16 {
-        block_word(block, t)
-    } else {
-        expanded(w, t)
-    }
-}
-
-// Writes the words of a block at the first 16 places of the message schedule.
-fn write_block(block: &[u8; 64], w: &mut [u32; 64])
-    ensures first_words { take 16 w.new ≡ built (scheduled block.now) 16 }
-{
-    for t in 0..16 {
-        w[t] = scheduled(block, w, t);
-    }
-}
-
-// Writes the word at place `t` of the message schedule.
-fn extend(w: &mut [u32; 64], t: usize)
-    requires le_t { 16 ≤ t }
-    requires t_bound { t < 64 }
-    ensures one_word { w.new ≡ extended t w.old }
-{
-    w[t] = expanded(w, t);
-}
-
-// Eight words from place `first` on: written out, so that each word is at hand for the next but one.
+// Writes eight words of the message schedule from place `first` on: few enough for the compiler to write them out, so that each is
+// at hand for the next but one.
 fn extend_by_eight(w: &mut [u32; 64], first: usize)
-    requires le_first { 16 ≤ first }
-    requires first_bound { first + 8 ≤ 64 }
+    requires behind_the_block { 16 ≤ first }
+    requires within { first + 8 ≤ 64 }
     ensures eight_words { w.new ≡ turns (λ t. extended (first + t)) 8 w.old }
 {
-    extend(w, first);
-    extend(w, first + 1);
-    extend(w, first + 2);
-    extend(w, first + 3);
-    extend(w, first + 4);
-    extend(w, first + 5);
-    extend(w, first + 6);
-    extend(w, first + 7);
+    // Stays: the standard's recurrence gives each word by its place, from those at places before it.
+    for t in first..first + 8 {
+        w[t] = expanded(w, t);
+    }
 }
 
 // The message schedule of a block.
@@ -182,66 +138,30 @@ fn schedule(block: &[u8; 64]) -> [u32; 64]
     ensures all_words { result ≡ W block.now }
 {
     let mut w = [0; 64];
-    write_block(block, &mut w);
-    for i in 2..8 {
-        extend_by_eight(&mut w, 8 * i);
+    w[..16].copy_from_slice(&block_words(block));
+    for first in (16..64).step_by(8) {
+        extend_by_eight(&mut w, first);
     }
     w
 }
 
-// The round `t` on the working variables, with the message schedule `w`.
-fn round_at(v: &mut [u32; 8], w: &[u32; 64], t: usize)
-    requires { t < 64 }
-    ensures one_round { v.new ≡ round_at w.now t v.old }
+// Eight rounds on the working variables, with their constants and their words of the message schedule: few enough for the compiler
+// to write them out, so that no word moves from one working variable to the next.
+fn eight_rounds(v: &mut [u32; 8], constants: &[u32; 8], words: &[u32; 8])
+    ensures eight_turns { v.new ≡ turns (λ t. round (slice_index constants.now t) (slice_index words.now t)) 8 v.old }
 {
-    round(v, round_constant(t), w[t]);
-}
-
-// Eight rounds from `first` on: written out, so that no word moves from one working variable to the next.
-fn eight_rounds(v: &mut [u32; 8], w: &[u32; 64], first: usize)
-    requires { first + 8 ≤ 64 }
-    ensures eight_turns { v.new ≡ turns (λ t. round_at w.now (first + t)) 8 v.old }
-{
-    round_at(v, w, first);
-    round_at(v, w, first + 1);
-    round_at(v, w, first + 2);
-    round_at(v, w, first + 3);
-    round_at(v, w, first + 4);
-    round_at(v, w, first + 5);
-    round_at(v, w, first + 6);
-    round_at(v, w, first + 7);
+    for (constant, word) in constants.iter().zip(words) {
+        round(v, *constant, *word);
+    }
 }
 
 // The 64 rounds on the working variables, with the message schedule `w`.
 fn rounds(v: &mut [u32; 8], w: &[u32; 64])
     ensures all_rounds { v.new ≡ rounds w.now v.old }
 {
-    for i in 0..8 {
-        eight_rounds(v, w, 8 * i);
+    let (constants, _) = round_constants().as_chunks::<8>();
+    let (words, _) = w.as_chunks::<8>();
+    for (constants, words) in constants.iter().zip(words) {
+        eight_rounds(v, constants, words);
     }
-}
-
-// Adds the working variables to the state, word by word.
-fn add(state: &mut [u32; 8], v: &[u32; 8])
-    ensures eight_sums { state.new ≡ added state.old v.now }
-{
-    *state = [
-        state[0].wrapping_add(v[0]),
-        state[1].wrapping_add(v[1]),
-        state[2].wrapping_add(v[2]),
-        state[3].wrapping_add(v[3]),
-        state[4].wrapping_add(v[4]),
-        state[5].wrapping_add(v[5]),
-        state[6].wrapping_add(v[6]),
-        state[7].wrapping_add(v[7]),
-    ];
-}
-
-// Takes one block into the state, which is the hash value so far.
-fn compress(state: &mut [u32; 8], block: &[u8; 64])
-    ensures next_hash_value { state.new ≡ compressed state.old block.now }
-{
-    let mut v = *state;
-    rounds(&mut v, &schedule(block));
-    add(state, &v);
 }

@@ -1,4 +1,3 @@
 pub mod Lengths
-pub mod Mismatch
 pub mod Outcomes
 pub mod Guarded

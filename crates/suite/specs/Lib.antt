@@ -1,5 +1,6 @@
 pub mod Meaning
 pub mod Fits
 pub mod Laws
+pub mod Mismatch
 pub mod Cipher
 pub mod Integrity

@@ -4,16 +4,18 @@ ghost use Rattle.suite.specs.Cipher.{CipherMeaning, ciphering, done, text_after,
 
 use crate::fault::Fault;
 
-#[derive(Clone, Copy)]
+#[derive(Clone, Copy, PartialEq, Eq, Debug)]
 pub struct CipherSizes {
     // the initialization vector
     pub vector: usize,
     // a text has a whole number of units
     pub unit: usize,
+    // Stays: the definitions speak of both, and a text in clear has a unit too, which an `Option` of it would not tell.
     pub encrypts: bool,
 }
 
 // Enciphers and deciphers a text in place. The work area may hold anything of the key afterwards: the caller zeroes it.
+// Stays: code, key and vector come from a triple and from inputs, and a struct of them would be made for each call alone.
 pub trait Cipher {
     ghost ciphers: { Self → CipherMeaning };
 

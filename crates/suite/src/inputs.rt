@@ -1,5 +1,6 @@
 // What sealing and opening take besides the text.
 
+// Stays: keys are compared with no early exit and never printed, so `==` and `Debug` are not derived.
 #[derive(Clone, Copy)]
 pub struct Inputs<'a> {
     // the encryption key

@@ -3,7 +3,7 @@ ghost use Rattle.std.specs.Prelude.{◌≡◌};
 ghost use Rattle.octets.specs.Octets.{over};
 ghost use Rattle.suite.specs.Integrity.{IntegrityMeaning, checked, IntegritySizesAreBounded, CheckValueHasItsSize};
 
-#[derive(Clone, Copy)]
+#[derive(Clone, Copy, PartialEq, Eq, Debug)]
 pub struct IntegritySizes {
     // the integrity key
     pub key: usize,

@@ -3,6 +3,7 @@
 
 mod cipher;
 mod fault;
+mod fitting;
 mod inputs;
 mod integrity;
 mod sizes;
@@ -12,6 +13,7 @@ mod work;
 
 pub use cipher::{Cipher, CipherSizes};
 pub use fault::Fault;
+pub use fitting::Fitting;
 pub use inputs::Inputs;
 pub use integrity::{Integrity, IntegritySizes};
 pub use sizes::{HEAD, Sizes, WORK};

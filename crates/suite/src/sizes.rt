@@ -12,7 +12,7 @@ pub const WORK: usize = 240;
 pub const HEAD: usize = 12;
 
 // Sizes in bytes, and whether the text is encrypted.
-#[derive(Clone, Copy)]
+#[derive(Clone, Copy, PartialEq, Eq, Debug)]
 pub struct Sizes {
     // the integrity key
     pub integrity: usize,
@@ -24,6 +24,7 @@ pub struct Sizes {
     pub check: usize,
     // a text has a whole number of units
     pub unit: usize,
+    // Stays: the definitions speak of both, and a text in clear has a unit too, which an `Option` of it would not tell.
     pub encrypts: bool,
 }
 

@@ -9,6 +9,8 @@ use crate::sizes::Sizes;
 use crate::triple::Triple;
 
 // Seals texts and opens what was sealed, under each triple that it serves. No call changes the suite.
+// Stays: a text is sealed where it stands, at the start of the output, since the engine has no heap; so its length is told beside it.
+// Stays: a triple is asked for its sizes before the inputs are known, so the two are not one value.
 pub trait Suite {
     ghost meaning: { Self → Meaning };
 

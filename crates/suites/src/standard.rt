@@ -11,7 +11,6 @@ use codes::{AES_CBC, AES_CCM, AUTH_COMBINED, AUTH_HMAC_SHA1_96, AUTH_HMAC_SHA2_2
 use combined::Ccm;
 use pairing::Pairing;
 use sha::{Sha1, Sha256};
-use std::marker::PhantomData;
 use suite::{Cipher, Integrity, IntegritySizes, Sizes, Suite, Triple};
 
 // ENCR_NULL with AUTH_HMAC_SHA1_96, and with AUTH_HMAC_SHA2_256_128.
@@ -31,11 +30,7 @@ fn hmac_sha1_96() -> HmacIntegrity<Sha1>
     ensures its_code { result.code ≡ auth_hmac_sha1_96 }
     ensures its_sizes { result.sizes ≡ hmac_sizes 20 12 }
 {
-    HmacIntegrity {
-        code: AUTH_HMAC_SHA1_96,
-        sizes: IntegritySizes { key: 20, check: 12 },
-        hash: PhantomData,
-    }
+    HmacIntegrity::new(AUTH_HMAC_SHA1_96, IntegritySizes { key: 20, check: 12 })
 }
 
 // AUTH_HMAC_SHA2_256_128: a key of 32 bytes, a check value of 16.
@@ -43,11 +38,10 @@ fn hmac_sha2_256_128() -> HmacIntegrity<Sha256>
     ensures its_code { result.code ≡ auth_hmac_sha2_256_128 }
     ensures its_sizes { result.sizes ≡ hmac_sizes 32 16 }
 {
-    HmacIntegrity {
-        code: AUTH_HMAC_SHA2_256_128,
-        sizes: IntegritySizes { key: 32, check: 16 },
-        hash: PhantomData,
-    }
+    HmacIntegrity::new(
+        AUTH_HMAC_SHA2_256_128,
+        IntegritySizes { key: 32, check: 16 },
+    )
 }
 
 // ENCR_NULL with AUTH_HMAC_SHA2_256_128.
@@ -68,10 +62,7 @@ pub fn null_hmac_sha2_256_128() -> NullHmacSha256
 fn aes_cbc() -> Cbc<Aes>
     ensures its_code { result.code ≡ aes_cbc }
 {
-    Cbc {
-        code: AES_CBC,
-        cipher: PhantomData,
-    }
+    Cbc::new(AES_CBC)
 }
 
 // AES-CCM with a check value of 16 bytes.
@@ -79,11 +70,7 @@ fn aes_ccm() -> Ccm<Aes>
     ensures its_encryption_code { result.encryption ≡ aes_ccm }
     ensures its_integrity_code { result.integrity ≡ auth_combined }
 {
-    Ccm {
-        encryption: AES_CCM,
-        integrity: AUTH_COMBINED,
-        cipher: PhantomData,
-    }
+    Ccm::new(AES_CCM, AUTH_COMBINED)
 }
 
 // ENCR_NULL and AES-CBC, each with AUTH_HMAC_SHA1_96 and AUTH_HMAC_SHA2_256_128, and AES-CCM.

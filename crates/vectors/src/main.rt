@@ -1,17 +1,18 @@
 // Published vectors of SHA-256 and HMAC-SHA-256, run: a line for each, and then how many passed and failed.
 #![tactic(auto)]
 
-mod hmac_vectors;
-mod report;
 mod sha_vectors;
 
-use crate::report::Tally;
+use published::{HMAC_SHA_256, Tally};
+use sha::Sha256;
 
-fn run(rt: &HostRuntime) -> anyhow::Result<()> {
-    let mut tally = Tally::new();
+fn run(rt: &impl Print) -> anyhow::Result<()> {
+    let mut tally = Tally::default();
     sha_vectors::run(rt, &mut tally)?;
-    hmac_vectors::run(rt, &mut tally)?;
-    tally.conclude(rt)
+    published::run::<Sha256, _>(rt, &mut tally, &HMAC_SHA_256)?;
+    println!(rt; "{tally}")?;
+    tally.verdict()?;
+    Ok(())
 }
 
 fn main(rt: HostRuntime) -> anyhow::Result<()> {

@@ -1,19 +1,15 @@
-use Rattle.std.proofs.Common.{◌-◌, take, ap, ◌∙◌, rules}
-use Rattle.octets.specs.Octets.{placed}
+use Rattle.std.proofs.Common.{refl, ◌∙◌, sym, rules}
 use Rattle.ccm.proofs.BlockBytes.{associated-block, associated-rest}
 use Rattle.ccm.proofs.blocks.associated_block.Goals as goal
 
 pub returns : goal.returns
 returns c =
-    let n = c.min-n.result in
+    let n = c.min.result in
     let k = c.write_length-before.result in
     let aad = c.args.aad.now in
-    let block = c.args.block.now in
-    let kl = c.write_length-before.ensures.bytes_counted in
-    record {
-      within = search rules;
-      the_rest_is_left = associated-rest n k aad kl (search rules);
-      first_block_then_old =
-          associated-block n k aad block c.copy_at.new.out (search rules) kl (search rules)
-          (c.copy_at.ensures.written ∙ ap (placed k (take (n - 0) aad)) c.write_length-before.ensures.length_then_old);
+    let counted = c.write_length-before.ensures.bytes_counted in record {
+      first_block_then_zeros =
+          associated-block k n _ aad _ _ _ counted (search rules) c.split_at.ensures.front refl
+          c.write_length-before.ensures.length_then_old c.copy_from_slice.ensures.after;
+      the_rest_is_left = associated-rest n k aad counted (search rules) ∙ sym c.split_at.ensures.back;
     }

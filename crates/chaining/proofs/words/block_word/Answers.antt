@@ -1,12 +1,6 @@
 -- Past the block there is nothing to read.
-use Rattle.std.proofs.Common.{◌*◌, take, sym, ap, arith}
-use Rattle.std.proofs.lemmas.List.{drop_all}
-use Rattle.octets.specs.Numbers.{number}
-use Rattle.chaining.specs.Words.{block_word}
+use Rattle.chaining.proofs.Blocks.{no_word}
 use Rattle.chaining.proofs.words.block_word.Goals as goal
 
 pub returns-else-t-lt16 : goal.returns-else-t-lt16
-unfolding block_word
-returns-else-t-lt16 c =
-    let nothing = drop_all (4 * c.args.t) c.args.block.now (omega arith) in
-    record { most_significant_byte_first = ap (λ xs. number (take 4 xs)) (sym nothing) }
+returns-else-t-lt16 c = record { most_significant_byte_first = no_word c.args.block.now c.args.t c.told-block c.if-t-lt16.false }

@@ -1,5 +1,4 @@
 use Rattle.std.proofs.Common.{rules}
-use Rattle.std.proofs.lemmas.List.{take_all}
 use Rattle.chaining.specs.WordBytes.{word_none, word_more}
 use Rattle.chaining.proofs.words.write_words.Goals as goal
 
@@ -8,6 +7,3 @@ loop-i-init c = search (rules, word_none)
 
 pub loop-i-preserved : goal.loop-i-preserved
 loop-i-preserved c = search (rules, word_more)
-
-pub returns : goal.returns
-returns c = search (rules, take_all)

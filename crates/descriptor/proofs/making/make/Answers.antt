@@ -1,74 +1,58 @@
-use Rattle.std.proofs.Common.{◌≡◌, ℕ, ◌≤◌, length, take, IfOk, Some, Err, Result, sym, ap, ◌∙◌, subst, arith, rules}
-use Rattle.descriptor.specs.Laws.{OpensTo}
-use Rattle.descriptor.specs.Making.{answer, output_after, work_after, made_bytes}
-use Rattle.descriptor.specs.declared.fault.Fault.{Fault}
-use Rattle.descriptor.proofs.Admitted.{makeable, making-refused, making_made}
+use Rattle.std.proofs.Common.{◌≡◌, ◌≤◌, length, take, IfOk, sym, ap, ◌∙◌, arith, rules}
+use Rattle.descriptor.specs.Laws.{AllBytes, OpensTo}
+use Rattle.descriptor.specs.Making.{answer, making, made_bytes, output_after}
+use Rattle.descriptor.proofs.Admitted.{makeable, making_made}
+use Rattle.descriptor.proofs.Asked.{as_asked}
 use Rattle.descriptor.proofs.RoundTrip.{opens_to}
 use Rattle.descriptor.proofs.SealingText.{made_long}
 use Rattle.descriptor.proofs.making.make.Goals as goal
 
-pub admit-requires : goal.admit-requires
-admit-requires g c =
-    let m = g.S.Suite.meaning c.args.suite.now in
-    let served : m.serves c.args.under.triple ≡ Some c.in_ok-sizes.sizes = search rules in
-    record { bounded = g.met.S.Suite.sizes_are_bounded c.args.suite.now c.args.under.triple c.in_ok-sizes.sizes served }
+pub returns-clause-length_answered : goal.returns-clause-length_answered
+returns-clause-length_answered g c =
+    let a = c.args in
+    let s = c.in_ok-served.served in
+    let done =
+    making_made (g.S.Suite.meaning s.suite.now) s.under a.label a.vector.now a.data.now a.out.now a.work.now s.sizes s.told
+    (sym c.admit.ensures.first_that_fits ∙ c.in_ok-admit.was) in
+    as_asked (λ q p. c.make_fitting.result ≡ answer (making (g.S.Suite.meaning q) p a.label a.vector.now a.data.now a.out.now a.work.now)) _ _ _ _
+    c.in_ok-served.ensures.asked (c.make_fitting.ensures.length_answered ∙ ap answer (sym done))
 
-pub returns-in_err-admit : goal.returns-in_err-admit
-returns-in_err-admit g c =
-    let m = g.S.Suite.meaning c.args.suite.now in
-    let out = c.args.out.now in
-    let work = c.args.work.now in
-    let fault = c.in_err-admit.field-0.0 in
-    let served : m.serves c.args.under.triple ≡ Some c.in_ok-sizes.sizes = search rules in
-    let passed_on : c.from_residual-in_err-admit.result ≡ Err fault = search rules in
-    let refused =
-    making-refused m c.args.under c.args.label c.args.vector.now c.args.data.now out work c.in_ok-sizes.sizes served fault
-    (sym c.admit.ensures.first_that_fits ∙ c.in_err-admit.was) in
-    record {
-      length_answered = passed_on ∙ ap answer (sym refused);
-      descriptor_then_old = ap (λ r. output_after r out) (sym refused);
-      work_bytes_zero = ap (λ r. work_after r work) (sym refused);
-      opens_to_its_data = subst (λ (r : Result ℕ Fault). IfOk r (λ n. OpensTo m c.args.under c.args.label c.args.data.now (take n out))) (sym passed_on) tt;
-    }
+pub returns-clause-descriptor_then_old : goal.returns-clause-descriptor_then_old
+returns-clause-descriptor_then_old g c =
+    let a = c.args in
+    let s = c.in_ok-served.served in
+    let out = a.out.now in
+    let done =
+    making_made (g.S.Suite.meaning s.suite.now) s.under a.label a.vector.now a.data.now out a.work.now s.sizes s.told
+    (sym c.admit.ensures.first_that_fits ∙ c.in_ok-admit.was) in
+    as_asked (λ q p. c.make_fitting.new.out ≡ output_after (making (g.S.Suite.meaning q) p a.label a.vector.now a.data.now out a.work.now) out) _ _ _ _
+    c.in_ok-served.ensures.asked (c.make_fitting.ensures.descriptor_then_old ∙ ap (λ d. output_after d out) (sym done))
 
-pub make_fitting-requires : goal.make_fitting-requires
-make_fitting-requires g c =
-    let m = g.S.Suite.meaning c.args.suite.now in
-    let z = c.in_ok-sizes.sizes in
-    let served : m.serves c.args.under.triple ≡ Some z = search rules in
-    record {
-      served = served;
-      bounded = g.met.S.Suite.sizes_are_bounded c.args.suite.now c.args.under.triple z served;
-      fits =
-          makeable c.args.under c.args.label.form z (length c.args.vector.now) (length c.args.data.now) (length c.args.out.now)
-          (length c.args.work.now) (sym c.admit.ensures.first_that_fits ∙ c.in_ok-admit.was);
-    }
-
-pub returns : goal.returns
-returns g c =
-    let suite = c.args.suite.now in
+pub returns-clause-opens_to_its_data : goal.returns-clause-opens_to_its_data
+returns-clause-opens_to_its_data g c =
+    let a = c.args in
+    let s = c.in_ok-served.served in
+    let suite = s.suite.now in
     let m = g.S.Suite.meaning suite in
-    let p = c.args.under in
-    let l = c.args.label in
-    let vector = c.args.vector.now in
-    let xs = c.args.data.now in
-    let out = c.args.out.now in
-    let work = c.args.work.now in
-    let z = c.in_ok-sizes.sizes in
-    let served : m.serves p.triple ≡ Some z = search rules in
-    let bounded = g.met.S.Suite.sizes_are_bounded suite p.triple z served in
-    let admitted = sym c.admit.ensures.first_that_fits ∙ c.in_ok-admit.was in
-    let fits = makeable p l.form z (length vector) (length xs) (length out) (length work) admitted in
-    let done = making_made m p l vector xs out work z served admitted in
-    let long : length (made_bytes m p l vector xs out work z) ≤ length out =
-    omega (arith, fits.room, made_long m p l z vector xs (length out) (length work) (g.met.S.Suite.sealing_adds_the_check_value suite) served bounded fits out work) in
-    record {
-      length_answered = c.make_fitting.ensures.length_answered ∙ ap answer (sym done);
-      descriptor_then_old = c.make_fitting.ensures.descriptor_then_old ∙ ap (λ r. output_after r out) (sym done);
-      work_bytes_zero = c.make_fitting.ensures.work_bytes_zero ∙ ap (λ r. work_after r work) (sym done);
-      opens_to_its_data =
-          opens_to m p l z vector xs (length out) (length work) (g.met.S.Suite.opening_undoes_sealing suite)
-          (g.met.S.Suite.sealing_adds_the_check_value suite) served bounded fits c.all_bytes.ensures.all_are_bytes (search rules) (search rules)
-          c.make_fitting.result out c.make_fitting.new.out c.make_fitting.ensures.length_answered
-          c.make_fitting.ensures.descriptor_then_old long;
-    }
+    let undoes = g.met.S.Suite.opening_undoes_sealing suite in
+    let adds = g.met.S.Suite.sealing_adds_the_check_value suite in
+    let vector = a.vector.now in
+    let xs = a.data.now in
+    let out = a.out.now in
+    let work = a.work.now in
+    let bytes : AllBytes s.under vector xs = record {
+      key = s.key_bytes;
+      salt = s.salt_bytes;
+      integrity = s.integrity_bytes;
+      vector_bytes = c.bytes_are_octets.ensures.every_value_is_a_byte;
+      data_bytes = c.bytes_are_octets-2.ensures.every_value_is_a_byte;
+    } in
+    let fits = makeable s.under a.label.form s.sizes (length vector) (length xs) (length out) (length work)
+    (sym c.admit.ensures.first_that_fits ∙ c.in_ok-admit.was) in
+    let long : length (made_bytes m s.under a.label vector xs out work s.sizes) ≤ length out =
+    omega (arith, fits.room, made_long m s.under a.label s.sizes vector xs (length out) (length work) adds s.told s.bounded fits out work) in
+    as_asked (λ q p. IfOk c.make_fitting.result (λ n. OpensTo (g.S.Suite.meaning q) p a.label xs (take n c.make_fitting.new.out))) _ _ _ _
+    c.in_ok-served.ensures.asked
+    (opens_to m s.under a.label s.sizes vector xs (length out) (length work) undoes adds s.told s.bounded fits bytes
+    (search rules) (search rules) c.make_fitting.result out c.make_fitting.new.out c.make_fitting.ensures.length_answered
+    c.make_fitting.ensures.descriptor_then_old long)

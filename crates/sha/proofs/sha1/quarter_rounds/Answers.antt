@@ -1,16 +1,15 @@
--- Each turn is the round of its place, which falls in the quarter.
-use Rattle.std.proofs.Common.{◌≡◌, ℕ, ◌+◌, ◌*◌, ◌/◌, get_or, refl, ap, ◌∙◌, arith}
+-- Each turn is a round of the quarter, with the next word.
+use Rattle.std.proofs.Common.{refl}
 use Rattle.chaining.specs.Turns.{turns}
 use Rattle.chaining.proofs.Turns.{turns_more}
-use Rattle.sha.specs.Sha1.{round}
 use Rattle.sha.proofs.sha1.quarter_rounds.Goals as goal
 
-pub loop-t-init : goal.loop-t-init
+pub loop-word-init : goal.loop-word-init
 unfolding turns
-loop-t-init c = refl
+loop-word-init g c = (c.requires.callable, λ quarter is. refl)
 
-pub loop-t-preserved : goal.loop-t-preserved
-loop-t-preserved c =
-    let falls : c.args.quarter ≡ (20 * c.args.quarter + c.loop-t.t) / 20 = omega arith in
-    let at = λ (q : ℕ). round q (get_or c.args.w.now (20 * c.args.quarter + c.loop-t.t) 0) c.loop-t.v in
-    turns_more _ _ _ c.loop-t.invariant (c.round.ensures.one_round ∙ ap at falls)
+pub loop-word-preserved : goal.loop-word-preserved
+loop-word-preserved g c = (
+  c.loop-word.invariant.0,
+  λ quarter is. turns_more _ _ _ (c.loop-word.invariant.1 quarter is) (c.round.ensures.one_round quarter (is.0 _ _ _ _ c.mixed.ensures) is.1),
+)

@@ -1,16 +1,15 @@
 -- The four quarters, one after another, are all rounds.
-use Rattle.std.proofs.Common.{refl, ◌∙◌}
+use Rattle.std.proofs.Common.{refl, arith, rules}
 use Rattle.chaining.specs.Turns.{turns}
-use Rattle.chaining.proofs.Turns.{turns-after}
-use Rattle.sha.specs.Sha1.{round_at}
+use Rattle.sha.proofs.Quarters.{quarter_more}
 use Rattle.sha.proofs.sha1.rounds.Goals as goal
 
 pub returns : goal.returns
 unfolding turns
 returns c =
-    let step = round_at c.args.w.now in
+    let w = c.args.w.now in
     let v = c.args.v.now in
-    let first = c.quarter_rounds.ensures.twenty_rounds ∙ turns-after step 0 20 v v refl in
-    let second = c.quarter_rounds-2.ensures.twenty_rounds ∙ turns-after step 20 20 v _ first in
-    let third = c.quarter_rounds-3.ensures.twenty_rounds ∙ turns-after step 40 20 v _ second in
-    record { all_rounds = c.quarter_rounds-4.ensures.twenty_rounds ∙ turns-after step 60 20 v _ third }
+    let first = quarter_more w v 0 c.told-w (omega arith) refl (c.quarter_rounds.ensures.a_round_each_word 0 (search rules)) in
+    let second = quarter_more w v 1 c.told-w (omega arith) first (c.quarter_rounds-2.ensures.a_round_each_word 1 (search rules)) in
+    let third = quarter_more w v 2 c.told-w (omega arith) second (c.quarter_rounds-3.ensures.a_round_each_word 2 (search rules)) in
+    record { all_rounds = quarter_more w v 3 c.told-w (omega arith) third (c.quarter_rounds-4.ensures.a_round_each_word 3 (search rules)) }

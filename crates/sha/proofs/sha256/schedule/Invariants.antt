@@ -1,8 +1,11 @@
--- The words before the i-th eight are the schedule's.
-use Rattle.std.proofs.Common.{◌≡◌, ◌*◌, length, take}
-use Rattle.sha.specs.Sha256.{scheduled}
-use Rattle.chaining.specs.Turns.{built}
+-- The words before the next eight are the schedule's.
+use Rattle.std.proofs.Common.{◌≡◌, ◌%◌, ◌≤◌}
+use Rattle.sha.proofs.Schedules.{Upto}
 use Rattle.sha.proofs.sha256.schedule.Given as goal
 
-abbrev pub invariant-loop-i : goal.invariant-loop-i
-invariant-loop-i l = (length l.w ≡ 64) × (take (8 * l.i) l.w ≡ built (scheduled l.block) (8 * l.i))
+abbrev pub invariant-loop-first : goal.invariant-loop-first
+invariant-loop-first l = record {
+  in_eights : l.first % 8 ≡ 0;
+  within : l.first ≤ 64;
+  so_far : Upto l.block l.w l.first;
+}

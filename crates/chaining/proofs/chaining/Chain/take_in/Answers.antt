@@ -1,9 +1,9 @@
 use Rattle.std.proofs.Common.{rules}
-use Rattle.chaining.specs.Chained.{part_filled, part_ends}
+use Rattle.chaining.proofs.Taken.{filled_and_rest, ended_and_rest}
 use Rattle.chaining.proofs.chaining.Chain.take_in.Goals as goal
 
-pub returns-then-filled-n-eq64 : goal.returns-then-filled-n-eq64
-returns-then-filled-n-eq64 g c = search (rules, part_ends)
+pub returns-then-end-eq64-clause-absorbed : goal.returns-then-end-eq64-clause-absorbed
+returns-then-end-eq64-clause-absorbed g c = search (rules, ended_and_rest)
 
-pub returns-else-filled-n-eq64 : goal.returns-else-filled-n-eq64
-returns-else-filled-n-eq64 g c = search (rules, part_filled)
+pub returns-else-end-eq64-clause-absorbed : goal.returns-else-end-eq64-clause-absorbed
+returns-else-end-eq64-clause-absorbed g c = search (rules, filled_and_rest)
