@@ -1,5 +1,5 @@
 // The digest of any message from a hash function's rounds on blocks of 64 bytes, as FIPS 180-4 chains and pads them.
-ghost use Rattle.std.specs.Prelude.{◌≡◌, ℕ, ◌*◌, ◌%◌, ◌<◌, ◌≤◌, List, [], ◌++◌, length, take, if◌then◌else◌, nat_lt};
+ghost use Rattle.std.specs.Prelude.{◌≡◌, ℕ, ◌*◌, ◌%◌, ◌<◌, ◌≤◌, List, [], ◌++◌, length, if◌then◌else◌, nat_lt};
 ghost use Rattle.std.proofs.Common.{ap, ◌∙◌, rules};
 ghost use Rattle.octets.specs.Octets.{zeros};
 ghost use Rattle.chaining.specs.Chaining.{marked, hashed, digest_after};

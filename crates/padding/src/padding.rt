@@ -1,7 +1,7 @@
 // How long the padding is, writing it, and what an arriving text holds before it.
 ghost use Rattle.std.specs.Prelude.{◌≡◌, ◌+◌, ◌-◌, ◌<◌, ◌≤◌, max, length};
 ghost use Rattle.octets.specs.Octets.{same};
-ghost use Rattle.padding.specs.Padding.{data_length, least_pad, pad_to, trailed, trailer, well_padded, Lawful, LeastFill};
+ghost use Rattle.padding.specs.Padding.{data_length, least_pad, pad_to, trailed, trailer, Lawful, LeastFill};
 ghost use Rattle.padding.specs.Worked.{WorkedValues};
 
 use octets::same_octets;

@@ -4,7 +4,7 @@ ghost use Rattle.std.specs.Option.{ok_or};
 ghost use Rattle.octets.specs.Octets.{over};
 ghost use Rattle.suite.specs.Fits.{Sealable, Openable};
 ghost use Rattle.suite.specs.Meaning.{Meaning, given, counted, output_after};
-ghost use Rattle.suite.specs.Laws.{SizesAreBounded, SealingAddsTheCheckValue, SealingGivesBytes, OpeningUndoesSealing, WhatOpensWasSealed, MismatchWhenNoTextSeals};
+ghost use Rattle.suite.specs.Laws.{SizesAreBounded, SealingAddsTheCheckValue, SealingGivesBytes, OpeningUndoesSealing, WhatOpensWasSealed};
 ghost use Rattle.suite.specs.Mismatch.{mismatch_when_no_text_seals};
 ghost use Rattle.suite.specs.declared.fault.Fault.TheVariants.{Mismatch};
 

@@ -11,7 +11,7 @@ use codes::{AES_CBC, AES_CCM, AUTH_COMBINED, AUTH_HMAC_SHA1_96, AUTH_HMAC_SHA2_2
 use combined::Ccm;
 use pairing::Pairing;
 use sha::{Sha1, Sha256};
-use suite::{Cipher, Integrity, IntegritySizes, Sizes, Suite, Triple};
+use suite::{IntegritySizes, Sizes, Suite, Triple};
 
 // ENCR_NULL with AUTH_HMAC_SHA1_96, and with AUTH_HMAC_SHA2_256_128.
 type NullSuites = Bank<Pairing<Null, HmacIntegrity<Sha1>>, Pairing<Null, HmacIntegrity<Sha256>>>;
