@@ -30,13 +30,13 @@ module _ (w : List ℕ) (keys : List (List ℕ)) (all : Keys w keys) where
       let behind = length-drop 1 keys in
       here ∙ (rw (middle_is i n (omega arith) (omega arith), before) (rw add-one refl))
 
-  pub ciphered : (i : ℕ) (b s u r : List ℕ) → 2 ≤ length keys → i ≡ length (take (length keys - 1 - 1) (drop 1 keys)) → s ≡ add_round_key (get_or keys 0 []) b → u ≡ rounds_to w i s
-      → r ≡ add_round_key (get_or keys (length keys - 1) []) (shift_rows (sub_bytes u)) → r ≡ forward w b
-  ciphered i b s u r two last first before here =
+  pub ciphered : (i : ℕ) (b s u r key : List ℕ) → 2 ≤ length keys → i ≡ length (take (length keys - 1 - 1) (drop 1 keys)) → s ≡ add_round_key (get_or keys 0 []) b → u ≡ rounds_to w i s
+      → key ≡ get_or keys (length keys - 1) [] → r ≡ add_round_key key (shift_rows (sub_bytes u)) → r ≡ forward w b
+  ciphered i b s u r key two last first before is here =
       let count = all.count in
       let end : i ≡ length keys - 1 - 1 = last ∙ simp (length-take, length-drop) (omega arith) in
       here
-      ∙ (rw (key_is (length keys - 1) (omega arith), before, first, key_is 0 (omega arith), end, count) refl
+      ∙ (rw (is, key_is (length keys - 1) (omega arith), before, first, key_is 0 (omega arith), end, count) refl
       ∙ sym (cond-false _ b _ (le-ltb (length w) 32 (omega arith))))
 
   module _ (middle : List (List ℕ)) (is : middle ≡ take (length keys - 1 - 1) (drop 1 keys)) where
@@ -59,16 +59,16 @@ module _ (w : List ℕ) (keys : List (List ℕ)) (all : Keys w keys) where
         ∙ (ap (λ ks. get_or ks m []) (sym split) ∙ (read ∙ (ap (λ ks. get_or ks m []) is ∙ (middle_is m (length keys - 1 - 1) (omega arith) (omega arith) ∙ ap (round_key w) (add-one m))))) in
         rw (here, next) (rw size at so)
 
-    pub inv_ciphered : (b s u r : List ℕ) (left : List (List ℕ)) → 2 ≤ length keys → length left ≡ 0 → s ≡ add_round_key (get_or keys (length keys - 1) []) b
+    pub inv_ciphered : (b s u r key : List ℕ) (left : List (List ℕ)) → 2 ≤ length keys → length left ≡ 0 → key ≡ get_or keys (length keys - 1) [] → s ≡ add_round_key key b
         → inv_rounds_from w (length left) u ≡ inv_rounds_from w (length middle) s
         → r ≡ add_round_key (get_or keys 0 []) (inv_sub_bytes (inv_shift_rows u)) → r ≡ inverse w b
     unfolding inv_rounds_from
-    inv_ciphered b s u r left two none first so here =
+    inv_ciphered b s u r key left two none is first so here =
         let count = all.count in
         let long = middle_long in
         let done = rw (none, long) at so in
         here
-        ∙ (rw (key_is 0 (omega arith), done, first, key_is (length keys - 1) (omega arith), count) refl
+        ∙ (rw (key_is 0 (omega arith), done, first, is, key_is (length keys - 1) (omega arith), count) refl
         ∙ sym (cond-false _ b _ (le-ltb (length w) 32 (omega arith))))
 
 -- a front without its last element

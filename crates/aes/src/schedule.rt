@@ -21,11 +21,12 @@ fn round_constant(j: usize) -> u8
 }
 
 // The word at place `i` of the schedule `w`.
+// Stays: read byte by byte; over words copied whole, by `as_chunks`, the schedule of a key of 32 bytes takes half as long again.
 fn word_at(w: &[u8], i: usize) -> [u8; 4]
     requires word_there { 4 * i + 4 ≤ length w.now }
     ensures the_word { result ≡ word w.now i }
 {
-    w.as_chunks().0[i]
+    [w[4 * i], w[4 * i + 1], w[4 * i + 2], w[4 * i + 3]]
 }
 
 // SubWord.

@@ -83,7 +83,7 @@ impl<B: BlockCipher> Fitting for Ccm<B> {
         out: &mut [u8],
         work: &mut [u8],
     ) -> Result<usize, Fault> {
-        Keyed::<B>::new(inputs, work).seal(text, out)
+        Keyed::<B>::new(inputs, work)?.seal(text, out)
     }
 
     fn open_fitting(
@@ -95,6 +95,6 @@ impl<B: BlockCipher> Fitting for Ccm<B> {
         out: &mut [u8],
         work: &mut [u8],
     ) -> Result<usize, Fault> {
-        Keyed::<B>::new(inputs, work).open(sealed, out)
+        Keyed::<B>::new(inputs, work)?.open(sealed, out)
     }
 }

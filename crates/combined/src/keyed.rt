@@ -1,5 +1,5 @@
 // CCM under a key, a nonce and a head.
-ghost use Rattle.std.specs.Prelude.{◌≡◌, ◌+◌, ◌-◌, ◌^◌, ◌<◌, ◌≤◌, true, length, take, is_some, Ok};
+ghost use Rattle.std.specs.Prelude.{◌≡◌, ◌+◌, ◌-◌, ◌^◌, ◌<◌, ◌≤◌, true, length, take, is_some, Ok, IsOk, IfOk};
 ghost use Rattle.std.specs.Option.{ok_or};
 ghost use Rattle.octets.specs.Octets.{over};
 ghost use Rattle.ccm.specs.Ccm.{sealed, opened};
@@ -8,7 +8,7 @@ ghost use Rattle.suite.specs.declared.fault.Fault.TheVariants.{Mismatch};
 ghost use Rattle.combined.specs.CcmSuite.{nonce};
 
 use crate::faults::suite_fault;
-use crate::nonce::{NONCE, joined};
+use crate::nonce::{NONCE, SALT, VECTOR, joined};
 use block::BlockCipher;
 use std::marker::PhantomData;
 use suite::{Fault, Inputs};
@@ -26,31 +26,29 @@ pub(crate) struct Keyed<'a, B> {
 }
 
 impl<'a, B: BlockCipher> Keyed<'a, B> {
-    // Writes the schedule of the key over the start of `work`.
-    pub(crate) fn new(inputs: Inputs<'a>, work: &'a mut [u8]) -> Keyed<'a, B>
-        requires taken { is_some (B.scheduled (length (given inputs).key)) ≡ true }
-        requires salt_size { length (given inputs).salt ≡ 3 }
-        requires vector_size { length (given inputs).vector ≡ 8 }
-        requires work_bytes { 240 ≤ length work.old }
-        ensures schedule_of_the_key { result.schedule.now ≡ B.expanded (given inputs.entry).key }
-        ensures salt_then_vector { result.nonce ≡ nonce (given inputs.entry) }
-        ensures same_head { result.head.now ≡ (given inputs.entry).head }
+    // Writes the schedule of the key over the start of `work`. Refused where key, salt, vector or work area has the wrong length.
+    pub(crate) fn new(inputs: Inputs<'a>, work: &'a mut [u8]) -> Result<Keyed<'a, B>, Fault>
+        ensures made_where_lengths_fit { is_some (B.scheduled (length (given inputs.entry).key)) ≡ true → length (given inputs.entry).salt ≡ 3 → length (given inputs.entry).vector ≡ 8 → 240 ≤ length work.old → IsOk result }
+        ensures schedule_of_the_key { IfOk result (λ k. k.schedule.now ≡ B.expanded (given inputs.entry).key) }
+        ensures salt_then_vector { IfOk result (λ k. k.nonce ≡ nonce (given inputs.entry)) }
+        ensures same_head { IfOk result (λ k. k.head.now ≡ (given inputs.entry).head) }
     {
-        let schedule = B::expand_key(inputs.key, work).unwrap();
-        Keyed {
+        if inputs.salt.len() != SALT || inputs.vector.len() != VECTOR {
+            return Err(Fault::Size);
+        }
+        let schedule = B::expand_key(inputs.key, work).ok_or(Fault::Size)?;
+        Ok(Keyed {
             schedule: &work[..schedule],
             nonce: joined(inputs.salt, inputs.vector),
             head: inputs.head,
             cipher: PhantomData,
-        }
+        })
     }
 
     // Seals the text at the start of `out`.
     pub(crate) fn seal(&self, text: usize, out: &mut [u8]) -> Result<usize, Fault>
-        requires short { text < 2 ^ 32 }
-        requires room { text + 16 ≤ length out.old }
-        ensures sealed_bytes_counted { result ≡ Ok (length (sealed (B.forward self.now.schedule.now) 16 self.now.nonce self.now.head.now (take text out.old))) }
-        ensures sealed_bytes_then_old { out.new ≡ over (sealed (B.forward self.now.schedule.now) 16 self.now.nonce self.now.head.now (take text out.old)) out.old }
+        ensures sealed_bytes_counted { text < 2 ^ 32 → text + 16 ≤ length out.old → result ≡ Ok (length (sealed (B.forward self.now.schedule.now) 16 self.now.nonce self.now.head.now (take text out.old))) }
+        ensures sealed_bytes_then_old { text < 2 ^ 32 → text + 16 ≤ length out.old → out.new ≡ over (sealed (B.forward self.now.schedule.now) 16 self.now.nonce self.now.head.now (take text out.old)) out.old }
     {
         let answer = ccm::seal::<B>(self.schedule, &self.nonce, self.head, CHECK, text, out);
         answer.map_err(suite_fault)
@@ -58,11 +56,8 @@ impl<'a, B: BlockCipher> Keyed<'a, B> {
 
     // Opens `bytes` into the start of `out`.
     pub(crate) fn open(&self, bytes: &[u8], out: &mut [u8]) -> Result<usize, Fault>
-        requires check_size { 16 ≤ length bytes.now }
-        requires short { length bytes.now - 16 < 2 ^ 32 }
-        requires room { length bytes.now - 16 ≤ length out.old }
-        ensures text_counted { result ≡ counted (ok_or (opened (B.forward self.now.schedule.now) 16 self.now.nonce self.now.head.now bytes.now) Mismatch) }
-        ensures text_or_zeros_then_old { out.new ≡ output_after (ok_or (opened (B.forward self.now.schedule.now) 16 self.now.nonce self.now.head.now bytes.now) Mismatch) (length bytes.now - 16) out.old }
+        ensures text_counted { 16 ≤ length bytes.now → length bytes.now - 16 < 2 ^ 32 → length bytes.now - 16 ≤ length out.old → result ≡ counted (ok_or (opened (B.forward self.now.schedule.now) 16 self.now.nonce self.now.head.now bytes.now) Mismatch) }
+        ensures text_or_zeros_then_old { 16 ≤ length bytes.now → length bytes.now - 16 < 2 ^ 32 → length bytes.now - 16 ≤ length out.old → out.new ≡ output_after (ok_or (opened (B.forward self.now.schedule.now) 16 self.now.nonce self.now.head.now bytes.now) Mismatch) (length bytes.now - 16) out.old }
     {
         let answer = ccm::open::<B>(self.schedule, &self.nonce, self.head, CHECK, bytes, out);
         answer.map_err(suite_fault)

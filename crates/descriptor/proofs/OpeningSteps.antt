@@ -1,5 +1,5 @@
 -- The steps of opening a descriptor, over plain lists. Assumes nothing.
-use Rattle.std.proofs.Common.{◌≡◌, ℕ, ◌-◌, ◌<◌, ◌≤◌, Bool, true, false, cond, List, ◌++◌, length, take, drop, Some, None, Ok, Err, Option, Result, sym, refl, ap, ◌∙◌, arith}
+use Rattle.std.proofs.Common.{◌≡◌, ℕ, ◌-◌, ◌<◌, ◌≤◌, Bool, true, false, cond, not, List, ◌++◌, length, take, drop, Some, None, Ok, Err, Option, Result, sym, refl, ap, ◌∙◌, arith}
 use borrow.Rule.Slice.PartMut.{put_mid}
 use Rattle.std.specs.List.{between}
 use Rattle.std.specs.Option.{ok_or}
@@ -22,6 +22,14 @@ use Rattle.suite.specs.declared.Triple.{Triple}
 use Rattle.suite.proofs.Lengths.{openable, lengths-fit, text-fits}
 use Rattle.descriptor.specs.Opening.{data_after, unpadding, work_after}
 use Rattle.descriptor.specs.Text.{data_of}
+
+-- where the suite does not encrypt, the data are the text
+pub text_in_clear : (z : Sizes) (text : List ℕ) → not z.encrypts ≡ true → data_of z text ≡ Some text
+text_in_clear z text e = by z.encrypts e
+  where
+    by : (b : Bool) → not b ≡ true → cond b (unpadded text) (Some text) ≡ Some text
+    by true h = absurd (let n : ◌≡◌ {A = ℕ} 0 1 = cc in omega arith)
+    by false h = refl
 
 -- where the suite encrypts, the data are what unpadding leaves
 pub text-padded : (z : Sizes) (text : List ℕ) (n : Option ℕ) → z.encrypts ≡ true → n ≡ data_length text → data_of z text ≡ cut n text

@@ -1,11 +1,11 @@
 -- What a write leaves of a buffer, and when two lists are the same bytes.
-use Rattle.std.proofs.Common.{◌≡◌, ℕ, zero, suc, ◌+◌, ◌<◌, ◌≤◌, Bool, true, false, ◌&&◌, eqb, List, [], ◌∷◌, ◌++◌, length, get_or, take, drop, replicate, sym, refl, ap, ◌∙◌, ⊎_elim, append_assoc, arith}
+use Rattle.std.proofs.Common.{◌≡◌, ℕ, zero, suc, ◌+◌, ◌<◌, ◌≤◌, Bool, true, false, ◌&&◌, eqb, leb, List, [], ◌∷◌, ◌++◌, length, get_or, take, drop, replicate, sym, refl, ap, ◌∙◌, ⊎_elim, append_assoc, arith}
 use borrow.Rule.Slice.PartMut.{put_mid}
 use lib.Bits.{bit_or, bit_xor, or_add_and, xor_add_and, and_le_l, and_le_r, xor_self}
 use lib.Seq.{take-nil, drop-nil}
 use Rattle.std.specs.List.{AllByRecursion}
 use Rattle.std.proofs.lemmas.List.{append-nil, length-append, length-take, length-drop, length-replicate, take_all, drop_all, take-replicate, take_at, drop_at, take_more, drop-drop}
-use Rattle.std.proofs.lemmas.Bool.{and_parts, eqb-true, eq-eqb, cases_Bool, and_from, le-leb, cond-true}
+use Rattle.std.proofs.lemmas.Bool.{and_parts, eqb-true, eq-eqb, cases_Bool, and_from, leb-true, le-leb, cond_both, cond-true}
 use Rattle.std.proofs.lemmas.Bool.Decides.{nat_tests}
 use Rattle.octets.specs.Octets.{zeros, over, wiped, placed, same}
 
@@ -78,6 +78,14 @@ placed-fits at xs ys h = cond-true _ _ _ (le-leb _ _ h)
 
 pub placed_part : (at k : ℕ) (zs xs ys : List ℕ) → at + length xs ≤ length ys → k ≡ length xs → zs ≡ xs → put_mid at k ys zs ≡ placed at xs ys
 placed_part at k zs xs ys h e f = rw (e, f, drop-drop) (sym (placed-fits at xs ys h))
+
+pub length-placed : (at : ℕ) (xs ys : List ℕ) → length (placed at xs ys) ≡ length ys
+length-placed at xs ys =
+    cond_both (leb (at + length xs) (length ys)) (take at ys ++ (xs ++ drop (at + length xs) ys)) ys
+    (λ zs. length zs ≡ length ys)
+    (λ e. let h = leb-true (at + length xs) (length ys) e in
+    simp (length-append, length-take, length-drop) (omega arith))
+    (λ e. refl)
 
 -- what is written right behind xs, where xs was written over the start
 pub placed_behind : (at : ℕ) (xs ys out : List ℕ) → length xs ≡ at → at + length ys ≤ length out → placed at ys (over xs out) ≡ over (xs ++ ys) out

@@ -1,10 +1,15 @@
 -- The trailer: its length, its bytes, and the writes that make it.
-use Rattle.std.proofs.Common.{◌≡◌, ℕ, ◌+◌, ◌-◌, ◌<◌, ◌≤◌, List, [], ◌∷◌, ◌++◌, length, take, set, sym, ap, ◌∙◌, arith}
-use Rattle.std.proofs.lemmas.List.FromFn.{map-range_with_len_more}
-use Rattle.std.proofs.lemmas.List.{append_assoc, length-set, map-id, take_all, take_more_set}
+use Rattle.std.proofs.Common.{◌≡◌, ℕ, ◌+◌, ◌-◌, ◌<◌, ◌≤◌, ◌&&◌, eqb, List, [], ◌∷◌, ◌++◌, length, get_or, take, set, sym, ap, ◌∙◌, arith}
+use lib.Bits.{bit_or, bit_xor, xor_zero_r}
+use Rattle.std.proofs.lemmas.List.FromFn.{length-range_with_len, map-range_with_len_more}
+use Rattle.std.proofs.lemmas.List.{append_assoc, length-append, length-set, length-take-le, map-id, take_all, take_more, take_more_set}
 use Rattle.std.proofs.lemmas.Bool.{le-leb}
 use Rattle.octets.specs.Octets.{same}
+use Rattle.octets.proofs.Octets.{no_difference, same_push}
 use Rattle.padding.specs.Padding.{ramp, trailed, trailer}
+
+pub length-trailer : (p : ℕ) → length (trailer p) ≡ p + 2
+length-trailer p = simp (length-append, length-range_with_len)
 
 pub ramp_more : (i : ℕ) → ramp (i + 1) ≡ ramp i ++ ((i + 1) ∷ [])
 ramp_more i =
@@ -27,3 +32,20 @@ pub trailed-fits : (n p : ℕ) (text : List ℕ) → length text ≡ n + p + 2 �
 trailed-fits n p text h allowed =
     let same : length text - (n + 2) ≡ p = omega arith in
     rw (le-leb (n + 2) (length text) (omega arith), le-leb (length text) (n + 2 + 255) (omega arith), same)
+
+-- one byte more of a comparison: d gathers the differences, and is 0 while there is none
+pub same_step : (xs zs : List ℕ) (i d y : ℕ) → i < length xs → length zs ≡ i → same (take i xs) zs ≡ eqb d 0 → same (take (i + 1) xs) (zs ++ (y ∷ [])) ≡ eqb (bit_or d (bit_xor (get_or xs i 0) y)) 0
+same_step xs zs i d y h k so =
+    rw (take_more xs i 0 h)
+    (same_push (take i xs) zs (get_or xs i 0) y (length-take-le i xs (omega arith) ∙ sym k)
+    ∙ ap (λ t. t && eqb (get_or xs i 0) y) so ∙ sym (no_difference d (get_or xs i 0) y))
+
+pub ramp-compared : (xs : List ℕ) (i d : ℕ) → i < length xs → same (take i xs) (ramp i) ≡ eqb d 0 → same (take (i + 1) xs) (ramp (i + 1)) ≡ eqb (bit_or d (bit_xor (get_or xs i 0) (i + 1))) 0
+ramp-compared xs i d h so = rw ramp_more (same_step xs (ramp i) i d (i + 1) h (length-range_with_len 1 i) so)
+
+pub trailer-compared : (xs : List ℕ) (i p d : ℕ) → i ≡ p → length xs ≡ p + 2 → same (take i xs) (ramp i) ≡ eqb d 0 → eqb (bit_or (bit_or d (bit_xor (get_or xs p 0) p)) (get_or xs (p + 1) 0)) 0 ≡ same xs (trailer p)
+trailer-compared xs i p d e h so =
+    let d' : ℕ = bit_or d (bit_xor (get_or xs p 0) p) in
+    let one = same_step xs (ramp p) p d p (omega arith) (length-range_with_len 1 p) (rw e at so) in
+    let two = same_step xs (ramp p ++ (p ∷ [])) (p + 1) d' 0 (omega arith) (simp (length-append, length-range_with_len)) one in
+    sym (rw (xor_zero_r, take_all (p + 1 + 1) xs (omega arith), append_assoc) at two)

@@ -71,6 +71,9 @@ impl<C: Cipher, I: Integrity> Fitting for Pairing<C, I> {
         out: &mut [u8],
         work: &mut [u8],
     ) -> Result<usize, Fault> {
+        if out.len() < text || out.len() - text < sizes.check {
+            return Err(Fault::Size);
+        }
         let (enciphered, rest) = out.split_at_mut(text);
         self.cipher.encipher(
             triple.encryption,
@@ -93,6 +96,12 @@ impl<C: Cipher, I: Integrity> Fitting for Pairing<C, I> {
         out: &mut [u8],
         work: &mut [u8],
     ) -> Result<usize, Fault> {
+        if sealed.len() < sizes.check
+            || LONGEST_CHECK < sizes.check
+            || out.len() < sealed.len() - sizes.check
+        {
+            return Err(Fault::Size);
+        }
         let text = sealed.len() - sizes.check;
         let (enciphered, check) = sealed.split_at(text);
         let mut value = [0; LONGEST_CHECK];

@@ -1,3 +1,4 @@
 mod Eights
 mod Quarters
 mod Schedules
+mod Sized

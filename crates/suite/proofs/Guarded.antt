@@ -11,7 +11,7 @@ use Rattle.suite.proofs.Lengths.{sealable, openable}
 use Rattle.suite.proofs.Outcomes.{sealing-served, opening-served, opening_work}
 
 -- the work area after the guard over it ends, whatever the call has left in its first 240 bytes
-guarded : (zs part work : List ℕ) → zs ≡ wiped 240 (part ++ drop 240 work) → length part ≡ 240 → 240 ≤ length work
+pub guarded : (zs part work : List ℕ) → zs ≡ wiped 240 (part ++ drop 240 work) → length part ≡ 240 → 240 ≤ length work
     → zs ≡ wiped 240 work
 guarded zs part work e long room =
     let n : length (part ++ drop 240 work) ≡ length part + length (drop 240 work) = length-append part (drop 240 work) in

@@ -15,7 +15,8 @@ use crate::suite::Suite;
 use crate::triple::Triple;
 use crate::work::WorkGuard;
 
-// What a suite does by itself, where it serves the triple and every length fits.
+// What a suite does by itself. Where it serves the triple with these sizes and every length fits, the clauses of sealing and opening say
+// the answer and every byte of the output. Elsewhere they say nothing but that an answer comes: `Suite` tests first.
 pub trait Fitting {
     ghost meaning: { Self → Meaning };
 
@@ -34,10 +35,8 @@ pub trait Fitting {
         out: &mut [u8],
         work: &mut [u8],
     ) -> Result<usize, Fault>
-        requires served { (meaning self.now).serves triple ≡ Some sizes }
-        requires fits { Sealable triple sizes (given inputs) text (length out.old) (length work.old) }
-        ensures sealed_bytes_counted { result ≡ Ok (length ((meaning self.now).sealed triple (given inputs.entry) (take text out.old))) }
-        ensures sealed_bytes_then_old { out.new ≡ over ((meaning self.now).sealed triple (given inputs.entry) (take text out.old)) out.old };
+        ensures sealed_bytes_counted { (meaning self.now).serves triple ≡ Some sizes → Sealable triple sizes (given inputs.entry) text (length out.old) (length work.old) → result ≡ Ok (length ((meaning self.now).sealed triple (given inputs.entry) (take text out.old))) }
+        ensures sealed_bytes_then_old { (meaning self.now).serves triple ≡ Some sizes → Sealable triple sizes (given inputs.entry) text (length out.old) (length work.old) → out.new ≡ over ((meaning self.now).sealed triple (given inputs.entry) (take text out.old)) out.old };
 
     // Opens `sealed` into the start of `out`. The work area may hold anything of the keys afterwards.
     fn open_fitting(
@@ -49,10 +48,8 @@ pub trait Fitting {
         out: &mut [u8],
         work: &mut [u8],
     ) -> Result<usize, Fault>
-        requires served { (meaning self.now).serves triple ≡ Some sizes }
-        requires fits { Openable triple sizes (given inputs) (length sealed.now) (length out.old) (length work.old) }
-        ensures text_counted { result ≡ counted (ok_or ((meaning self.now).opened triple (given inputs.entry) sealed.now) Mismatch) }
-        ensures text_or_zeros_then_old { out.new ≡ output_after (ok_or ((meaning self.now).opened triple (given inputs.entry) sealed.now) Mismatch) (length sealed.now - sizes.check) out.old };
+        ensures text_counted { (meaning self.now).serves triple ≡ Some sizes → Openable triple sizes (given inputs.entry) (length sealed.now) (length out.old) (length work.old) → result ≡ counted (ok_or ((meaning self.now).opened triple (given inputs.entry) sealed.now) Mismatch) }
+        ensures text_or_zeros_then_old { (meaning self.now).serves triple ≡ Some sizes → Openable triple sizes (given inputs.entry) (length sealed.now) (length out.old) (length work.old) → out.new ≡ output_after (ok_or ((meaning self.now).opened triple (given inputs.entry) sealed.now) Mismatch) (length sealed.now - sizes.check) out.old };
 
     ghost sizes_are_bounded: { (s : Self) → SizesAreBounded (meaning s) };
 

@@ -20,6 +20,6 @@ returns-in-None c =
     let keys = c.as_chunks.result.0.now in
     let all : Keys w keys = record { chunks = c.as_chunks.ensures.front; count = c.as_chunks.ensures.front_len } in record {
       deciphered =
-          inv_ciphered w keys all _ (search rules) _ _ _ _ _ c.in-len2-up.len_at_least c.in-None.ensures.steps.0 c.add_round_key.ensures.round_key_added
+          inv_ciphered w keys all _ (search rules) _ _ _ _ _ _ c.in-len2-up.len_at_least c.in-None.ensures.steps.0 (search rules) c.add_round_key.ensures.round_key_added
           c.loop-key.invariant.rest c.final_round_back.ensures.last_round_back;
     }

@@ -1,10 +1,6 @@
 use Rattle.std.proofs.Common.{sym, ◌∙◌, rules}
-use Rattle.suite.proofs.Guarded.{openable_within, opening_guarded}
+use Rattle.suite.proofs.Guarded.{opening_guarded}
 use Rattle.suite.proofs.fitting.AnySuite.open.Goals as goal
-
-pub open_fitting-requires-clause-fits : goal.open_fitting-requires-clause-fits
-open_fitting-requires-clause-fits g c =
-    openable_within _ _ _ _ _ _ _ (search rules) (sym c.fit_opening.ensures.whether_it_may_be_opened ∙ c.if-not-fit_opening.false)
 
 pub returns-clause-work_bytes_zero : goal.returns-clause-work_bytes_zero
 returns-clause-work_bytes_zero g c =

@@ -1,10 +1,6 @@
 use Rattle.std.proofs.Common.{sym, ◌∙◌, rules}
-use Rattle.suite.proofs.Guarded.{sealable_within, sealing_guarded}
+use Rattle.suite.proofs.Guarded.{sealing_guarded}
 use Rattle.suite.proofs.fitting.AnySuite.seal.Goals as goal
-
-pub seal_fitting-requires-clause-fits : goal.seal_fitting-requires-clause-fits
-seal_fitting-requires-clause-fits g c =
-    sealable_within _ _ _ _ _ _ _ (search rules) (sym c.fit_sealing.ensures.whether_it_may_be_sealed ∙ c.if-not-fit_sealing.false)
 
 pub returns-clause-work_bytes_zero : goal.returns-clause-work_bytes_zero
 returns-clause-work_bytes_zero g c =
